@@ -16,8 +16,8 @@ use Rattle.vt_key.specs.Lists.{Among}
 use Rattle.vt_key.proofs.ListLemmas.{every-weaker, among-append, among-left, among-right, map-among, rising-left, rising-across}
 use Rattle.vt_model.specs.declared.sending.Sent.{Sent}
 use Rattle.vt_seq.specs.declared.entry.Entry.{Entry}
-use Rattle.vt_seq.specs.Entries.{entry_cmp, events_in, IsLeast, IsFalling}
-use Rattle.vt_seq.specs.Days.{day_of, joined, is_used, IsPut, IsTaken, AreDated, AreJustBefore}
+use Rattle.vt_seq.specs.Entries.{entry_cmp, events_in, IsLeastEntry, IsFalling}
+use Rattle.vt_seq.specs.Days.{day_of, entries_of_days, is_used, IsPut, IsDayTaken, AreDated, AreJustBefore}
 use Rattle.vt_seq.proofs.HeapLemmas.{less-key, not-before-trans, among-permuted, least-append, least-popped}
 
 -- what is found in a list of which one place was set
@@ -61,7 +61,7 @@ module _ {P : Type 0} where
     | inr at ↦ among-right d (events_in ys) (x.event ∷ []) (inl at)
   ])
 
-  pub falling-last : (ys : List (Entry P)) (x : Entry P) → IsFalling (ys ++ x ∷ []) → IsFalling ys × IsLeast x ys
+  pub falling-last : (ys : List (Entry P)) (x : Entry P) → IsFalling (ys ++ x ∷ []) → IsFalling ys × IsLeastEntry x ys
   falling-last ys x f = (
     rising-left _ ys (x ∷ []) f,
     (λ d m before.
@@ -74,34 +74,34 @@ module _ {P : Type 0} where
 
   -- ---- entries by days
 
-  pub joined-put : (days : List (List (Entry P))) (i : ℕ) (l : List (Entry P)) (x : Entry P) → slice_get days i ≡ Some l → IsPermutation (x ∷ joined days) (joined (slice_set days i (l ++ x ∷ [])))
-  joined-put [] i l x h = let never : None ≡ Some l = h in absurd (cc)
-  joined-put (k ∷ days) zero l x h =
+  pub days-put : (days : List (List (Entry P))) (i : ℕ) (l : List (Entry P)) (x : Entry P) → slice_get days i ≡ Some l → IsPermutation (x ∷ entries_of_days days) (entries_of_days (slice_set days i (l ++ x ∷ [])))
+  days-put [] i l x h = let never : None ≡ Some l = h in absurd (cc)
+  days-put (k ∷ days) zero l x h =
       let same : k ≡ l = (let z : Some k ≡ Some l = h in cc) in
-      subst (λ (m : List (Entry P)). IsPermutation (x ∷ (m ++ joined days)) (l ++ x ∷ [] ++ joined days)) (sym same)
-      (subst (IsPermutation (x ∷ (l ++ joined days))) (sym (append_assoc l (x ∷ []) (joined days))) (IsPermutation-sym (l ++ x ∷ joined days) (x ∷ (l ++ joined days)) (IsPermutation-middle l x (joined days))))
-  joined-put (k ∷ days) (suc i) l x h =
-      IsPermutation-trans (x ∷ (k ++ joined days)) (k ++ x ∷ joined days) (k ++ joined (slice_set days i (l ++ x ∷ [])))
-      (IsPermutation-sym (k ++ x ∷ joined days) (x ∷ (k ++ joined days)) (IsPermutation-middle k x (joined days)))
-      (IsPermutation-append_right k (x ∷ joined days) (joined (slice_set days i (l ++ x ∷ []))) (joined-put days i l x h))
+      subst (λ (m : List (Entry P)). IsPermutation (x ∷ (m ++ entries_of_days days)) (l ++ x ∷ [] ++ entries_of_days days)) (sym same)
+      (subst (IsPermutation (x ∷ (l ++ entries_of_days days))) (sym (append_assoc l (x ∷ []) (entries_of_days days))) (IsPermutation-sym (l ++ x ∷ entries_of_days days) (x ∷ (l ++ entries_of_days days)) (IsPermutation-middle l x (entries_of_days days))))
+  days-put (k ∷ days) (suc i) l x h =
+      IsPermutation-trans (x ∷ (k ++ entries_of_days days)) (k ++ x ∷ entries_of_days days) (k ++ entries_of_days (slice_set days i (l ++ x ∷ [])))
+      (IsPermutation-sym (k ++ x ∷ entries_of_days days) (x ∷ (k ++ entries_of_days days)) (IsPermutation-middle k x (entries_of_days days)))
+      (IsPermutation-append_right k (x ∷ entries_of_days days) (entries_of_days (slice_set days i (l ++ x ∷ []))) (days-put days i l x h))
 
-  pub joined-taken : (days : List (List (Entry P))) (i : ℕ) (l : List (Entry P)) → slice_get days i ≡ Some l → IsPermutation (l ++ joined (slice_set days i [])) (joined days)
-  joined-taken [] i l h = let never : None ≡ Some l = h in absurd (cc)
-  joined-taken (k ∷ days) zero l h =
+  pub days-taken : (days : List (List (Entry P))) (i : ℕ) (l : List (Entry P)) → slice_get days i ≡ Some l → IsPermutation (l ++ entries_of_days (slice_set days i [])) (entries_of_days days)
+  days-taken [] i l h = let never : None ≡ Some l = h in absurd (cc)
+  days-taken (k ∷ days) zero l h =
       let same : k ≡ l = (let z : Some k ≡ Some l = h in cc) in
-      subst (λ (m : List (Entry P)). IsPermutation (l ++ joined days) (m ++ joined days)) (sym same) (IsPermutation-refl (l ++ joined days))
-  joined-taken (k ∷ days) (suc i) l h =
-      IsPermutation-trans (l ++ (k ++ joined (slice_set days i []))) (k ++ (l ++ joined (slice_set days i []))) (k ++ joined days)
-      (exchange l k (joined (slice_set days i [])))
-      (IsPermutation-append_right k (l ++ joined (slice_set days i [])) (joined days) (joined-taken days i l h))
+      subst (λ (m : List (Entry P)). IsPermutation (l ++ entries_of_days days) (m ++ entries_of_days days)) (sym same) (IsPermutation-refl (l ++ entries_of_days days))
+  days-taken (k ∷ days) (suc i) l h =
+      IsPermutation-trans (l ++ (k ++ entries_of_days (slice_set days i []))) (k ++ (l ++ entries_of_days (slice_set days i []))) (k ++ entries_of_days days)
+      (exchange l k (entries_of_days (slice_set days i [])))
+      (IsPermutation-append_right k (l ++ entries_of_days (slice_set days i [])) (entries_of_days days) (days-taken days i l h))
 
-  joined-least : (x : Entry P) (days : List (List (Entry P))) → ((i : ℕ) (l : List (Entry P)) → slice_get days i ≡ Some l → IsLeast x l) → IsLeast x (joined days)
-  joined-least x [] h = λ d m before. absurd m
-  joined-least x (k ∷ days) h = least-append x k (joined days) (h 0 k refl) (joined-least x days (λ i l at. h (suc i) l at))
+  days-least : (x : Entry P) (days : List (List (Entry P))) → ((i : ℕ) (l : List (Entry P)) → slice_get days i ≡ Some l → IsLeastEntry x l) → IsLeastEntry x (entries_of_days days)
+  days-least x [] h = λ d m before. absurd m
+  days-least x (k ∷ days) h = least-append x k (entries_of_days days) (h 0 k refl) (days-least x days (λ i l at. h (suc i) l at))
 
   -- an event of an earlier day is before all in the days
-  pub dated-least : (x : Entry P) (scale base next : ℕ) (days : List (List (Entry P))) → AreDated scale base next days → day_of scale (ticks_of x.event.key.time) < base + next → IsLeast x (joined days)
-  dated-least x scale base next days dated early = joined-least x days (λ i l at d m before.
+  pub dated-least : (x : Entry P) (scale base next : ℕ) (days : List (List (Entry P))) → AreDated scale base next days → day_of scale (ticks_of x.event.key.time) < base + next → IsLeastEntry x (entries_of_days days)
+  dated-least x scale base next days dated early = days-least x days (λ i l at d m before.
       let it = dated i l d at m in
       let day : day_of scale (ticks_of d.key.time) ≡ base + i = it.0 in
       let late : next ≤ i = it.1 in
@@ -127,7 +127,7 @@ module _ {P : Type 0} where
         | inr u ↦ dated i l d u.1 m
       ]
 
-  pub dated-taken : (scale base next day : ℕ) (list : List (Entry P)) (old new : List (List (Entry P))) → AreDated scale base next old → IsTaken day list old new → AreDated scale base (day + 1) new
+  pub dated-taken : (scale base next day : ℕ) (list : List (Entry P)) (old new : List (List (Entry P))) → AreDated scale base next old → IsDayTaken day list old new → AreDated scale base (day + 1) new
   dated-taken scale base next day list old new dated taken i l d at m =
       elim (set-found old day i [] l (subst (λ (days : List (List (Entry P))). slice_get days i ≡ Some l) taken.is at)) [
         | inl u ↦ absurd (subst (λ (k : List (Entry P)). Among d (events_in k)) u.1 m)
@@ -142,7 +142,7 @@ module _ {P : Type 0} where
             ] in (it.0, later)
       ]
 
-  pub taken-just : (scale base next day : ℕ) (list : List (Entry P)) (old new : List (List (Entry P))) → AreDated scale base next old → IsTaken day list old new → AreJustBefore scale (base + (day + 1)) list
+  pub taken-just : (scale base next day : ℕ) (list : List (Entry P)) (old new : List (List (Entry P))) → AreDated scale base next old → IsDayTaken day list old new → AreJustBefore scale (base + (day + 1)) list
   taken-just scale base next day list old new dated taken d m = let t : day_of scale (ticks_of d.key.time) ≡ base + day = (dated day list d taken.there m).0 in omega (arith, t)
 
   pub just-permuted : (scale day : ℕ) (xs ys : List (Entry P)) → IsPermutation xs ys → AreJustBefore scale day xs → AreJustBefore scale day ys
@@ -160,7 +160,7 @@ module _ {P : Type 0} where
   unmarked-empty days i [] h none = refl
   unmarked-empty days i (x ∷ l) h none = absurd (none (slice_get-map is_used days i ∙ ap (option_map is_used) h))
 
-  pub unmarked-none : (days : List (List (Entry P))) → ((i : ℕ) → slice_get (map is_used days) i ≡ Some true → ⊥) → joined days ≡ []
+  pub unmarked-none : (days : List (List (Entry P))) → ((i : ℕ) → slice_get (map is_used days) i ≡ Some true → ⊥) → entries_of_days days ≡ []
   unmarked-none [] none = refl
   unmarked-none ([] ∷ days) none = unmarked-none days (λ i h. none (suc i) h)
   unmarked-none ((x ∷ l) ∷ days) none = absurd (none 0 refl)
@@ -172,15 +172,15 @@ module _ {P : Type 0} where
   marked-there (k ∷ days) (suc i) h = marked-there days i h
 
   -- days without entries have no mark
-  pub empty-marks : (days : List (List (Entry P))) → joined days ≡ [] → replicate (length days) false ≡ map is_used days
+  pub empty-marks : (days : List (List (Entry P))) → entries_of_days days ≡ [] → replicate (length days) false ≡ map is_used days
   empty-marks [] none = refl
   empty-marks ([] ∷ days) none = ap (λ (m : List Bool). false ∷ m) (empty-marks days none)
-  empty-marks ((x ∷ l) ∷ days) none = let never : x ∷ (l ++ joined days) ≡ [] = none in absurd (cc)
+  empty-marks ((x ∷ l) ∷ days) none = let never : x ∷ (l ++ entries_of_days days) ≡ [] = none in absurd (cc)
 
-  pub joined-more : (days : List (List (Entry P))) → joined days ≡ [] → joined (days ++ [] ∷ []) ≡ []
-  joined-more [] none = refl
-  joined-more ([] ∷ days) none = joined-more days none
-  joined-more ((x ∷ l) ∷ days) none = let never : x ∷ (l ++ joined days) ≡ [] = none in absurd (cc)
+  pub days-more : (days : List (List (Entry P))) → entries_of_days days ≡ [] → entries_of_days (days ++ [] ∷ []) ≡ []
+  days-more [] none = refl
+  days-more ([] ∷ days) none = days-more days none
+  days-more ((x ∷ l) ∷ days) none = let never : x ∷ (l ++ entries_of_days days) ≡ [] = none in absurd (cc)
 
   -- ---- lists of which contracts see the items
 
@@ -234,13 +234,13 @@ module _ {P : Type 0} where
       subst (λ (l : List (Entry P)). IsPermutation (l ++ others) (x ∷ (ys ++ others))) (sym h)
       (subst (λ (l : List (Entry P)). IsPermutation l (x ∷ (ys ++ others))) (sym (append_assoc ys (x ∷ []) others)) (IsPermutation-middle ys x others))
 
-  pub last-least : (scale base next : ℕ) (xs ys : List (Entry P)) (x : Entry P) (days : List (List (Entry P))) → xs ≡ ys ++ x ∷ [] → IsFalling xs → AreJustBefore scale (base + next) xs → AreDated scale base next days → IsLeast x (xs ++ joined days)
+  pub last-least : (scale base next : ℕ) (xs ys : List (Entry P)) (x : Entry P) (days : List (List (Entry P))) → xs ≡ ys ++ x ∷ [] → IsFalling xs → AreJustBefore scale (base + next) xs → AreDated scale base next days → IsLeastEntry x (xs ++ entries_of_days days)
   last-least scale base next xs ys x days h falling before dated =
-      let least : IsLeast x ys = (falling-last ys x (subst (λ (l : List (Entry P)). IsFalling l) h falling)).1 in
+      let least : IsLeastEntry x ys = (falling-last ys x (subst (λ (l : List (Entry P)). IsFalling l) h falling)).1 in
       let at : day_of scale (ticks_of x.event.key.time) + 1 ≡ base + next = (just-last ys x scale (base + next) (subst (λ (l : List (Entry P)). AreJustBefore scale (base + next) l) h before)).1 in
       let early : day_of scale (ticks_of x.event.key.time) < base + next = omega (arith, at) in
-      subst (λ (l : List (Entry P)). IsLeast x (l ++ joined days)) (sym h)
-      (least-append x (ys ++ x ∷ []) (joined days) (least-popped x (ys ++ x ∷ []) ys (IsPermutation-to_front ys x) least) (dated-least x scale base next days dated early))
+      subst (λ (l : List (Entry P)). IsLeastEntry x (l ++ entries_of_days days)) (sym h)
+      (least-append x (ys ++ x ∷ []) (entries_of_days days) (least-popped x (ys ++ x ∷ []) ys (IsPermutation-to_front ys x) least) (dated-least x scale base next days dated early))
 
   pub falling-left : (left old : List (Entry P)) (r : Option (Entry P)) → old ≡ left ++ option_to_list r → IsFalling old → IsFalling left
   falling-left left old None h f = subst (λ (l : List (Entry P)). IsFalling l) (h ∙ append-nil left) f
@@ -257,19 +257,19 @@ module _ {P : Type 0} where
   dated-either scale base next day x old new (Ok v) put kept dated tick late = dated-put scale base next day x old new dated put tick late
   dated-either scale base next day x old new (Err e) put kept dated tick late = subst (λ (days : List (List (Entry P))). AreDated scale base next days) (sym kept) dated
 
-  pub entries-put : (day : ℕ) (x : Entry P) (present : List (Entry P)) (old new : List (List (Entry P))) → IsPut day x old new → IsPermutation (x ∷ (present ++ joined old)) (present ++ joined new)
+  pub entries-put : (day : ℕ) (x : Entry P) (present : List (Entry P)) (old new : List (List (Entry P))) → IsPut day x old new → IsPermutation (x ∷ (present ++ entries_of_days old)) (present ++ entries_of_days new)
   entries-put day x present old new put =
-      subst (λ (days : List (List (Entry P))). IsPermutation (x ∷ (present ++ joined old)) (present ++ joined days)) (sym put.is)
-      (IsPermutation-trans (x ∷ (present ++ joined old)) (present ++ x ∷ joined old) (present ++ joined (slice_set old day (put.list ++ x ∷ [])))
-      (IsPermutation-sym (present ++ x ∷ joined old) (x ∷ (present ++ joined old)) (IsPermutation-middle present x (joined old)))
-      (IsPermutation-append_right present (x ∷ joined old) (joined (slice_set old day (put.list ++ x ∷ []))) (joined-put old day put.list x put.there)))
+      subst (λ (days : List (List (Entry P))). IsPermutation (x ∷ (present ++ entries_of_days old)) (present ++ entries_of_days days)) (sym put.is)
+      (IsPermutation-trans (x ∷ (present ++ entries_of_days old)) (present ++ x ∷ entries_of_days old) (present ++ entries_of_days (slice_set old day (put.list ++ x ∷ [])))
+      (IsPermutation-sym (present ++ x ∷ entries_of_days old) (x ∷ (present ++ entries_of_days old)) (IsPermutation-middle present x (entries_of_days old)))
+      (IsPermutation-append_right present (x ∷ entries_of_days old) (entries_of_days (slice_set old day (put.list ++ x ∷ []))) (days-put old day put.list x put.there)))
 
-  pub entries-taken : (day : ℕ) (list sorted : List (Entry P)) (old new : List (List (Entry P))) → IsTaken day list old new → IsPermutation list sorted → IsPermutation (joined old) (sorted ++ joined new)
+  pub entries-taken : (day : ℕ) (list sorted : List (Entry P)) (old new : List (List (Entry P))) → IsDayTaken day list old new → IsPermutation list sorted → IsPermutation (entries_of_days old) (sorted ++ entries_of_days new)
   entries-taken day list sorted old new taken h =
-      subst (λ (days : List (List (Entry P))). IsPermutation (joined old) (sorted ++ joined days)) (sym taken.is)
-      (IsPermutation-trans (joined old) (list ++ joined (slice_set old day [])) (sorted ++ joined (slice_set old day []))
-      (IsPermutation-sym (list ++ joined (slice_set old day [])) (joined old) (joined-taken old day list taken.there))
-      (IsPermutation-append_left (joined (slice_set old day [])) list sorted h))
+      subst (λ (days : List (List (Entry P))). IsPermutation (entries_of_days old) (sorted ++ entries_of_days days)) (sym taken.is)
+      (IsPermutation-trans (entries_of_days old) (list ++ entries_of_days (slice_set old day [])) (sorted ++ entries_of_days (slice_set old day []))
+      (IsPermutation-sym (list ++ entries_of_days (slice_set old day [])) (entries_of_days old) (days-taken old day list taken.there))
+      (IsPermutation-append_left (entries_of_days (slice_set old day [])) list sorted h))
 
   -- ---- no entries
 
@@ -277,12 +277,12 @@ module _ {P : Type 0} where
   append-none [] ys h = (refl, h)
   append-none (x ∷ xs) ys h = let never : x ∷ (xs ++ ys) ≡ [] = h in absurd (cc)
 
-  none-there : (days : List (List (Entry P))) (i : ℕ) (l : List (Entry P)) → joined days ≡ [] → slice_get days i ≡ Some l → l ≡ []
+  none-there : (days : List (List (Entry P))) (i : ℕ) (l : List (Entry P)) → entries_of_days days ≡ [] → slice_get days i ≡ Some l → l ≡ []
   none-there [] i l none at = let never : None ≡ Some l = at in absurd (cc)
-  none-there (k ∷ days) zero l none at = (let z : l ≡ k = (let y : Some k ≡ Some l = at in cc) in z) ∙ (append-none k (joined days) none).0
-  none-there (k ∷ days) (suc i) l none at = none-there days i l (append-none k (joined days) none).1 at
+  none-there (k ∷ days) zero l none at = (let z : l ≡ k = (let y : Some k ≡ Some l = at in cc) in z) ∙ (append-none k (entries_of_days days) none).0
+  none-there (k ∷ days) (suc i) l none at = none-there days i l (append-none k (entries_of_days days) none).1 at
 
-  pub none-dated : (scale base next : ℕ) (days : List (List (Entry P))) → joined days ≡ [] → AreDated scale base next days
+  pub none-dated : (scale base next : ℕ) (days : List (List (Entry P))) → entries_of_days days ≡ [] → AreDated scale base next days
   none-dated scale base next days none i l d at m = absurd (subst (λ (k : List (Entry P)). Among d (events_in k)) (none-there days i l none at) m)
 
   pub none-falling : (xs : List (Entry P)) → xs ≡ [] → IsFalling xs

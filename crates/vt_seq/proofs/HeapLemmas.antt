@@ -20,7 +20,7 @@ use Rattle.vt_model.specs.Histories.{IsRising}
 use Rattle.vt_model.proofs.HistoryLemmas.{rising-same}
 use Rattle.vt_seq.specs.declared.entry.Entry.{Entry}
 use Rattle.vt_seq.specs.Queue.{inserted, all_inserted}
-use Rattle.vt_seq.specs.Entries.{entry_cmp, events_in, in_order, held, AreApart, IsLeast, IsQueue}
+use Rattle.vt_seq.specs.Entries.{entry_cmp, events_in, in_order, count_key, AreApart, IsLeastEntry, IsQueue}
 use Rattle.vt_seq.proofs.InsertedLemmas.{inserted-rising, inserted-sum, all_inserted-among, among-all_inserted}
 use Rattle.vt_seq.proofs.StepLemmas.{among-at}
 
@@ -101,31 +101,31 @@ module _ {P : Type 0} where
   held-one k e same = ap (λ (b : Bool). if b then 1 else 0) (ap (λ (l : Key). key_same l k) same ∙ same-key_same k)
 
   -- an event that is among others is held
-  some-held : (k : Key) (d : Sent P) (es : List (Sent P)) → Among d es → d.key ≡ k → 1 ≤ held k es
+  some-held : (k : Key) (d : Sent P) (es : List (Sent P)) → Among d es → d.key ≡ k → 1 ≤ count_key k es
   some-held k d [] m same = absurd m
   some-held k d (e ∷ es) (inl at) same =
       let one : one_held k e ≡ 1 = held-one k e (ap (λ (x : Sent P). x.key) (sym at) ∙ same) in
-      let both : held k (e ∷ es) ≡ one_held k e + held k es = sum_by-cons (one_held k) e es in omega (arith, one, both)
+      let both : count_key k (e ∷ es) ≡ one_held k e + count_key k es = sum_by-cons (one_held k) e es in omega (arith, one, both)
   some-held k d (e ∷ es) (inr m) same =
-      let more : 1 ≤ held k es = some-held k d es m same in
-      let both : held k (e ∷ es) ≡ one_held k e + held k es = sum_by-cons (one_held k) e es in omega (arith, more, both)
+      let more : 1 ≤ count_key k es = some-held k d es m same in
+      let both : count_key k (e ∷ es) ≡ one_held k e + count_key k es = sum_by-cons (one_held k) e es in omega (arith, more, both)
 
   -- events of different keys, inserted among others, rise
-  rising-apart : (es ds : List (Sent P)) → IsRising ds → ((k : Key) → held k es + held k ds ≤ 1) → IsRising (all_inserted es ds)
+  rising-apart : (es ds : List (Sent P)) → IsRising ds → ((k : Key) → count_key k es + count_key k ds ≤ 1) → IsRising (all_inserted es ds)
   rising-apart [] ds r apart = r
   rising-apart (e ∷ es) ds r apart =
       let once : IsRising (inserted e ds) = inserted-rising e ds r (λ d m same.
-      let there : 1 ≤ held e.key ds = some-held e.key d ds m same in
+      let there : 1 ≤ count_key e.key ds = some-held e.key d ds m same in
       let here : one_held e.key e ≡ 1 = held-one e.key e refl in
-      let both : held e.key (e ∷ es) ≡ one_held e.key e + held e.key es = sum_by-cons (one_held e.key) e es in
+      let both : count_key e.key (e ∷ es) ≡ one_held e.key e + count_key e.key es = sum_by-cons (one_held e.key) e es in
       omega (arith, there, here, both, apart e.key)) in
       rising-apart es (inserted e ds) once (λ k.
-      let both : held k (e ∷ es) ≡ one_held k e + held k es = sum_by-cons (one_held k) e es in
-      let put : held k (inserted e ds) ≡ one_held k e + held k ds = inserted-sum (one_held k) e ds in
+      let both : count_key k (e ∷ es) ≡ one_held k e + count_key k es = sum_by-cons (one_held k) e es in
+      let put : count_key k (inserted e ds) ≡ one_held k e + count_key k ds = inserted-sum (one_held k) e ds in
       omega (arith, both, put, apart k))
 
   rising-all : (es : List (Sent P)) → AreApart es → IsRising (all_inserted es [])
-  rising-all es apart = rising-apart es [] tt (λ k. let a : held k es ≤ 1 = apart k in omega (arith, a))
+  rising-all es apart = rising-apart es [] tt (λ k. let a : count_key k es ≤ 1 = apart k in omega (arith, a))
 
   among-contains : (d : Sent P) (es : List (Sent P)) → Among d es → Contains es d
   among-contains d [] m = absurd m
@@ -136,7 +136,7 @@ module _ {P : Type 0} where
   among-permuted xs ys h d m = let r = Contains-permutation xs ys d h (among-contains d xs m) in subst (λ x. Among x ys) r.2 (among-at ys r.0 d r.1)
 
   apart-permuted : (xs ys : List (Sent P)) → IsPermutation xs ys → AreApart xs → AreApart ys
-  apart-permuted xs ys h apart k = let same : held k ys ≡ held k xs = sum_by-IsPermutation (one_held k) xs ys h in let a : held k xs ≤ 1 = apart k in omega (arith, same, a)
+  apart-permuted xs ys h apart k = let same : count_key k ys ≡ count_key k xs = sum_by-IsPermutation (one_held k) xs ys h in let a : count_key k xs ≤ 1 = apart k in omega (arith, same, a)
 
   -- the same events in another order are the same in the order of their keys
   same-order : (xs ys : List (Sent P)) → IsPermutation xs ys → AreApart xs → all_inserted xs [] ≡ all_inserted ys []
@@ -152,14 +152,14 @@ module _ {P : Type 0} where
   permuted : (xs ys : List (Entry P)) → IsPermutation xs ys → IsPermutation (events_in xs) (events_in ys)
   permuted xs ys h = IsPermutation-map (λ (e : Entry P). e.event) xs ys h
 
-  pub least-permuted : (x : Entry P) (xs ys : List (Entry P)) → IsPermutation xs ys → IsLeast x xs → IsLeast x ys
+  pub least-permuted : (x : Entry P) (xs ys : List (Entry P)) → IsPermutation xs ys → IsLeastEntry x xs → IsLeastEntry x ys
   least-permuted x xs ys h least d m = least d (among-permuted (events_in ys) (events_in xs) (IsPermutation-sym (events_in xs) (events_in ys) (permuted xs ys h)) d m)
 
-  pub least-append : (x : Entry P) (xs ys : List (Entry P)) → IsLeast x xs → IsLeast x ys → IsLeast x (xs ++ ys)
+  pub least-append : (x : Entry P) (xs ys : List (Entry P)) → IsLeastEntry x xs → IsLeastEntry x ys → IsLeastEntry x (xs ++ ys)
   least-append x xs ys a b d m = elim (among-append d (events_in xs) (events_in ys) (subst (Among d) (map-append (λ (e : Entry P). e.event) xs ys) m)) [ inl n ↦ a d n | inr n ↦ b d n ]
 
   -- no key is before that of an entry that is an upper bound
-  pub top-least : (x : Entry P) (xs : List (Entry P)) → IsUpperBound entry_cmp x xs → IsLeast x xs
+  pub top-least : (x : Entry P) (xs : List (Entry P)) → IsUpperBound entry_cmp x xs → IsLeastEntry x xs
   top-least x [] h d m before = absurd m
   top-least x (y ∷ ys) h d (inl at) before =
       let less : is_lt (entry_cmp x y) ≡ true = ap is_lt (less-key y.event.key x.event.key (subst (λ (e : Sent P). KeyBefore e.key x.event.key) at before)) in
@@ -167,11 +167,11 @@ module _ {P : Type 0} where
   top-least x (y ∷ ys) h d (inr m) before = top-least x ys h.1 d m before
 
   -- none of these events has a key
-  none-held : (k : Key) (es : List (Sent P)) → ((d : Sent P) → Among d es → d.key ≡ k → ⊥) → held k es ≡ 0
+  none-held : (k : Key) (es : List (Sent P)) → ((d : Sent P) → Among d es → d.key ≡ k → ⊥) → count_key k es ≡ 0
   none-held k [] h = refl
   none-held k (e ∷ es) h =
-      let rest : held k es ≡ 0 = none-held k es (λ d m. h d (inr m)) in
-      let both : held k (e ∷ es) ≡ one_held k e + held k es = sum_by-cons (one_held k) e es in
+      let rest : count_key k es ≡ 0 = none-held k es (λ d m. h d (inr m)) in
+      let both : count_key k (e ∷ es) ≡ one_held k e + count_key k es = sum_by-cons (one_held k) e es in
       elim (cases_Bool (key_same e.key k)) [
         | inl y ↦ absurd (h e (inl refl) (key_same-true e.key k y))
         | inr y ↦ let one : one_held k e ≡ 0 = ap (λ (b : Bool). if b then 1 else 0) y in omega (arith, rest, both, one)
@@ -180,30 +180,30 @@ module _ {P : Type 0} where
   -- with an event of another key than these, they still have different keys
   apart-more : (e : Sent P) (es : List (Sent P)) → AreApart es → ((d : Sent P) → Among d es → d.key ≡ e.key → ⊥) → AreApart (e ∷ es)
   apart-more e es apart new k =
-      let both : held k (e ∷ es) ≡ one_held k e + held k es = sum_by-cons (one_held k) e es in
-      let few : held k es ≤ 1 = apart k in
+      let both : count_key k (e ∷ es) ≡ one_held k e + count_key k es = sum_by-cons (one_held k) e es in
+      let few : count_key k es ≤ 1 = apart k in
       elim (cases_Bool (key_same e.key k)) [
         | inl y ↦
             let one : one_held k e ≡ 1 = ap (λ (b : Bool). if b then 1 else 0) y in
-            let none : held k es ≡ 0 = none-held k es (λ d m same. new d m (same ∙ sym (key_same-true e.key k y))) in
+            let none : count_key k es ≡ 0 = none-held k es (λ d m same. new d m (same ∙ sym (key_same-true e.key k y))) in
             omega (arith, both, one, none)
         | inr y ↦ let one : one_held k e ≡ 0 = ap (λ (b : Bool). if b then 1 else 0) y in omega (arith, both, one, few)
       ]
 
   -- the least entry is the first, and the others come after it
-  least-first : (x : Entry P) (xs ys : List (Entry P)) → AreApart (events_in xs) → IsPermutation xs (x ∷ ys) → IsLeast x xs → in_order xs ≡ x.event ∷ in_order ys
+  least-first : (x : Entry P) (xs ys : List (Entry P)) → AreApart (events_in xs) → IsPermutation xs (x ∷ ys) → IsLeastEntry x xs → in_order xs ≡ x.event ∷ in_order ys
   least-first x xs ys apart h least =
       same-order (events_in xs) (x.event ∷ events_in ys) (permuted xs (x ∷ ys) h) apart
       ∙ all_later x.event (events_in ys) [] (λ d m. least-permuted x xs (x ∷ ys) h least d (inr m))
 
-  pub first-event : (x : Entry P) (xs ys : List (Entry P)) → AreApart (events_in xs) → IsPermutation xs (x ∷ ys) → IsLeast x xs → slice_get (in_order xs) 0 ≡ Some x.event
+  pub first-event : (x : Entry P) (xs ys : List (Entry P)) → AreApart (events_in xs) → IsPermutation xs (x ∷ ys) → IsLeastEntry x xs → slice_get (in_order xs) 0 ≡ Some x.event
   first-event x xs ys apart h least = ap (λ (es : List (Sent P)). slice_get es 0) (least-first x xs ys apart h least)
 
   -- without the least entry there are the events after the first
-  pub popped : (x : Entry P) (xs ys : List (Entry P)) → AreApart (events_in xs) → IsPermutation xs (x ∷ ys) → IsLeast x xs → AreApart (events_in ys) × (in_order ys ≡ drop 1 (in_order xs))
+  pub popped : (x : Entry P) (xs ys : List (Entry P)) → AreApart (events_in xs) → IsPermutation xs (x ∷ ys) → IsLeastEntry x xs → AreApart (events_in ys) × (in_order ys ≡ drop 1 (in_order xs))
   popped x xs ys apart h least =
       let both : AreApart (x.event ∷ events_in ys) = apart-permuted (events_in xs) (x.event ∷ events_in ys) (permuted xs (x ∷ ys) h) apart in (
-        λ k. let few : held k (x.event ∷ events_in ys) ≤ 1 = both k in let sum : held k (x.event ∷ events_in ys) ≡ one_held k x.event + held k (events_in ys) = sum_by-cons (one_held k) x.event (events_in ys) in omega (arith, few, sum),
+        λ k. let few : count_key k (x.event ∷ events_in ys) ≤ 1 = both k in let sum : count_key k (x.event ∷ events_in ys) ≡ one_held k x.event + count_key k (events_in ys) = sum_by-cons (one_held k) x.event (events_in ys) in omega (arith, few, sum),
         sym (ap (drop 1) (least-first x xs ys apart h least)),
       )
 
@@ -229,18 +229,18 @@ module _ {P : Type 0} where
   pub in-far : (x : Entry P) (near far left : List (Entry P)) → IsPermutation far (x ∷ left) → IsPermutation (near ++ far) (x ∷ (near ++ left))
   in-far x near far left h = IsPermutation-trans (near ++ far) (near ++ x ∷ left) (x ∷ (near ++ left)) (IsPermutation-append_right near far (x ∷ left) h) (IsPermutation-middle near x left)
 
-  pub least-none : (x : Entry P) (xs : List (Entry P)) → xs ≡ [] → IsLeast x xs
+  pub least-none : (x : Entry P) (xs : List (Entry P)) → xs ≡ [] → IsLeastEntry x xs
   least-none x xs empty d m = absurd (subst (λ (ys : List (Entry P)). Among d (events_in ys)) empty m)
 
   -- an entry that is least among those left is least
-  pub least-popped : (x : Entry P) (xs ys : List (Entry P)) → IsPermutation xs (x ∷ ys) → IsLeast x ys → IsLeast x xs
+  pub least-popped : (x : Entry P) (xs ys : List (Entry P)) → IsPermutation xs (x ∷ ys) → IsLeastEntry x ys → IsLeastEntry x xs
   least-popped x xs ys h least = least-permuted x (x ∷ ys) xs (IsPermutation-sym xs (x ∷ ys) h) (λ d m before. elim m [
     | inl at ↦ key-irreflexive x.event.key (subst (λ (e : Sent P). KeyBefore e.key x.event.key) at before)
     | inr n ↦ least d n before
   ])
 
   -- an entry of entries isn't before their least
-  pub among-least : (x y : Entry P) (xs others : List (Entry P)) → IsLeast x xs → IsPermutation xs (y ∷ others) → KeyBefore y.event.key x.event.key → ⊥
+  pub among-least : (x y : Entry P) (xs others : List (Entry P)) → IsLeastEntry x xs → IsPermutation xs (y ∷ others) → KeyBefore y.event.key x.event.key → ⊥
   among-least x y xs others least h = least-permuted x xs (y ∷ others) h least y.event (inl refl)
 
   -- the top of entries is one
@@ -257,12 +257,12 @@ module _ {P : Type 0} where
 
   -- ---- the first of two parts is removed
 
-  pub near-removed : (x : Entry P) (near left far : List (Entry P)) → IsQueue near far → IsPermutation near (x ∷ left) → IsLeast x near → IsLeast x far → IsQueue left far × (in_order (left ++ far) ≡ drop 1 (in_order (near ++ far)))
+  pub near-removed : (x : Entry P) (near left far : List (Entry P)) → IsQueue near far → IsPermutation near (x ∷ left) → IsLeastEntry x near → IsLeastEntry x far → IsQueue left far × (in_order (left ++ far) ≡ drop 1 (in_order (near ++ far)))
   near-removed x near left far q h least other =
       let p = popped x (near ++ far) (left ++ far) q.apart (in-near x near left far h) (least-append x near far least other) in
       (record { heap = q.heap; apart = p.0 }, p.1)
 
-  pub far-removed : (x : Entry P) (near far left : List (Entry P)) → IsQueue near far → IsPermutation far (x ∷ left) → IsHeap entry_cmp left → IsLeast x near → IsLeast x far → IsQueue near left × (in_order (near ++ left) ≡ drop 1 (in_order (near ++ far)))
+  pub far-removed : (x : Entry P) (near far left : List (Entry P)) → IsQueue near far → IsPermutation far (x ∷ left) → IsHeap entry_cmp left → IsLeastEntry x near → IsLeastEntry x far → IsQueue near left × (in_order (near ++ left) ≡ drop 1 (in_order (near ++ far)))
   far-removed x near far left q h heap other least =
       let p = popped x (near ++ far) (near ++ left) q.apart (in-far x near far left h) (least-append x near far other least) in
       (record { heap = heap; apart = p.0 }, p.1)

@@ -9,7 +9,7 @@ use Rattle.vt_key.proofs.ListLemmas.{every-insert_ordered, every-weaker, among-i
 use Rattle.vt_key.proofs.OrderLemmas.{key-transitive, key-total, key_before-true, before-key_before}
 use Rattle.vt_model.specs.declared.sending.Sent.{Sent}
 use Rattle.vt_model.specs.Histories.{IsRising, AreNumbered}
-use Rattle.vt_seq.specs.Queue.{inserted, all_inserted, AreNew}
+use Rattle.vt_seq.specs.Queue.{inserted, all_inserted, HaveNewKeys}
 
 module _ {P : Type 0} where
   pub inserted-rising : (e : Sent P) (ds : List (Sent P)) → IsRising ds → ((d : Sent P) → Among d ds → d.key ≡ e.key → ⊥) → IsRising (inserted e ds)
@@ -57,7 +57,7 @@ module _ {P : Type 0} where
       ])
 
   -- sends with new numbers have keys that aren't there
-  pub are_new : (p lo hi : ℕ) (es ds : List (Sent P)) → AreNumbered p lo hi es → ((d : Sent P) → Among d ds → d.key.source ≡ p → d.key.number < lo) → AreNew es ds
+  pub are_new : (p lo hi : ℕ) (es ds : List (Sent P)) → AreNumbered p lo hi es → ((d : Sent P) → Among d ds → d.key.source ≡ p → d.key.number < lo) → HaveNewKeys es ds
   are_new p lo hi [] ds n old = tt
   are_new p lo hi (e ∷ es) ds n old =
       let low : lo ≤ e.key.number = n.1 in (

@@ -27,7 +27,7 @@ use Rattle.vt_model.specs.declared.settings.Config.{Config}
 use Rattle.vt_model.specs.Handler.{Handlers}
 use Rattle.vt_model.specs.Settings.{end_of}
 use Rattle.vt_model.specs.Process.{triple_at}
-use Rattle.vt_seq.specs.Limits.{number_after, IsCounted, IsRefusal, IsStepRefusal}
+use Rattle.vt_seq.specs.Limits.{number_after, IsCounted, IsRefusal, IsRunStepRefusal}
 use Rattle.vt_seq.specs.StandsFor.{StandsFor, StandsAt, HasExecuted}
 use Rattle.vt_seq.specs.Queue.{IsWithinRun, all_inserted}
 use Rattle.vt_model.specs.declared.process.Process.{Process}
@@ -241,7 +241,7 @@ module _ {M S P K : Type 0} (sim : Simulation S P) (lawful : IsLawful sim) where
   -- why the next step is refused, where its receiver refuses it so
   pub refused_next : (n : ℕ) {pending : List (Sent P)} {processes : List (Process M S P K)} {e : Sent P} {p : Process M S P K} {fault : Fault}
       → StandsAt sim n pending processes → IsNext sim.lps sim.end pending processes e p → AreCounted sim.lps processes
-      → IsRefusal (sim.fire e.dest (triple_at p.state p.number p.stream) e).triple.number fault → IsStepRefusal sim n fault
+      → IsRefusal (sim.fire e.dest (triple_at p.state p.number p.stream) e).triple.number fault → IsRunStepRefusal sim n fault
   refused_next n {e} st next numbered (inl h) = inl (h.0, (e.dest, next.known, subst (λ (t : Triple S). MAX_COUNT < t.number) (next_triple n st next) h.1))
   refused_next n {e} st next numbered (inr h) = inr (h.0, counted_next n st next numbered h.1)
 

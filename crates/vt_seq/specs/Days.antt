@@ -17,9 +17,9 @@ IsNear base next day = (base + next ≤ day) × (day < base + DAYS)
 
 module _ {P : Type 0} where
   -- the entries of all days
-  abbrev pub joined : List (List (Entry P)) → List (Entry P)
-  joined [] = []
-  joined (day ∷ days) = day ++ joined days
+  abbrev pub entries_of_days : List (List (Entry P)) → List (Entry P)
+  entries_of_days [] = []
+  entries_of_days (day ∷ days) = day ++ entries_of_days days
 
   -- whether a day has an entry
   abbrev pub is_used : List (Entry P) → Bool
@@ -33,7 +33,7 @@ module _ {P : Type 0} where
     pub is : new ≡ slice_set old day (list ++ x ∷ [])
 
   -- the days after the first that has an entry was emptied
-  pub record IsTaken (day : ℕ) (list : List (Entry P)) (old new : List (List (Entry P))) : Type 0 where
+  pub record IsDayTaken (day : ℕ) (list : List (Entry P)) (old new : List (List (Entry P))) : Type 0 where
     pub there : slice_get old day ≡ Some list
     pub used : is_used list ≡ true
     pub first : (i : ℕ) (l : List (Entry P)) → i < day → slice_get old i ≡ Some l → l ≡ []
@@ -48,9 +48,9 @@ module _ {P : Type 0} where
   AreJustBefore scale day xs = (d : Sent P) → Among d (events_in xs) → day_of scale (ticks_of d.key.time) + 1 ≡ day
 
   -- the entries of a calendar: those of the present day, then those of the others
-  abbrev pub entries_of : List (Entry P) → List (List (Entry P)) → List (Entry P)
-  entries_of present days = present ++ joined days
+  abbrev pub calendar_entries : List (Entry P) → List (List (Entry P)) → List (Entry P)
+  calendar_entries present days = present ++ entries_of_days days
 
   -- without an entry of the present day there is none
-  abbrev pub IsSettled : List (Entry P) → List (List (Entry P)) → Type 0
-  IsSettled present days = present ≡ [] → joined days ≡ []
+  abbrev pub NoneWithoutPresent : List (Entry P) → List (List (Entry P)) → Type 0
+  NoneWithoutPresent present days = present ≡ [] → entries_of_days days ≡ []

@@ -20,12 +20,12 @@ module _ {S P : Type 0} (sim : Simulation S P) where
   IsCounted n = (p : ℕ) → p < sim.lps → number_after n p ≤ MAX_COUNT
 
   -- after n steps of the run some send number is past its limit
-  abbrev pub PassesLimit : ℕ → Type 0
-  PassesLimit n = (p : ℕ) × (p < sim.lps) × (MAX_COUNT < number_after n p)
+  abbrev pub PassesNumberLimit : ℕ → Type 0
+  PassesNumberLimit n = (p : ℕ) × (p < sim.lps) × (MAX_COUNT < number_after n p)
 
   -- why the step after n steps is refused: a send number would pass its limit; or none would, and memory was refused
-  abbrev pub IsStepRefusal : ℕ → Fault → Type 0
-  IsStepRefusal n fault = ((fault ≡ Exhausted) × PassesLimit (suc n)) ⊎ ((fault ≡ Memory) × IsCounted (suc n))
+  abbrev pub IsRunStepRefusal : ℕ → Fault → Type 0
+  IsRunStepRefusal n fault = ((fault ≡ Exhausted) × PassesNumberLimit (suc n)) ⊎ ((fault ≡ Memory) × IsCounted (suc n))
 
   -- at the end of the whole run every send number is within its limit
   abbrev pub IsCountedWhole : Type 0

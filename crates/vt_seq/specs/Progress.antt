@@ -31,5 +31,5 @@ pub record IsAfter {M S P : Type 0} (sim : Simulation S P) (n : ℕ) (now : Prog
   pub records : now.records ≡ records_to sim n
 
 -- the run of its model and config has made some number of steps
-abbrev pub IsReached : {M S P K : Type 0} → Handlers S P K → Progress M S P → Type 0
-IsReached handlers now = ∥ ((n : ℕ) × IsAfter (simulation_of handlers now.config) n now) ∥₁
+abbrev pub IsAfterSomeSteps : {M S P K : Type 0} → Handlers S P K → Progress M S P → Type 0
+IsAfterSomeSteps handlers now = ∥ ((n : ℕ) × IsAfter (simulation_of handlers now.config) n now) ∥₁

@@ -16,9 +16,9 @@ all_inserted [] ds = ds
 all_inserted (e ∷ es) ds = all_inserted es (inserted e ds)
 
 -- events that are inserted one after the other, each with a key that isn't there
-abbrev pub AreNew : {P : Type 0} → List (Sent P) → List (Sent P) → Type 0
-AreNew [] ds = Unit {0}
-AreNew (e ∷ es) ds = ((d : Sent _) → Among d ds → d.key ≡ e.key → ⊥) × AreNew es (inserted e ds)
+abbrev pub HaveNewKeys : {P : Type 0} → List (Sent P) → List (Sent P) → Type 0
+HaveNewKeys [] ds = Unit {0}
+HaveNewKeys (e ∷ es) ds = ((d : Sent _) → Among d ds → d.key ≡ e.key → ⊥) × HaveNewKeys es (inserted e ds)
 
 -- an event that some process of the run may execute
 pub record IsWithinRun {P : Type 0} (lps : ℕ) (end : Time) (e : Sent P) : Type 0 where

@@ -7,7 +7,7 @@ use Rattle.vt_model.specs.Handler.{Handlers}
 use Rattle.vt_model.specs.Simulation.{Simulation, simulation_of}
 use Rattle.vt_model.specs.Sequential.{seq_records, weight}
 use Rattle.vt_seq.specs.Given.{records_to, AddsStep}
-use Rattle.vt_seq.specs.Limits.{IsCounted, IsStepRefusal}
+use Rattle.vt_seq.specs.Limits.{IsCounted, IsRunStepRefusal}
 use Rattle.vt_seq.specs.Standing.{Standing, IsAt, IsOnWay}
 
 -- the run that an execution makes
@@ -31,4 +31,4 @@ pub record IsStep {M S P K : Type 0} (handlers : M → Handlers S P K) (old new 
   pub kept : IfErr result (λ fault. new ≡ old)
   pub records_kept : IfErr result (λ fault. new_records ≡ records)
   pub faults : IfErr result (λ fault. (fault ≡ Memory) ⊎ (fault ≡ Exhausted))
-  pub refused : (n : ℕ) → IsAt (run_of handlers old) n old → IfErr result (IsStepRefusal (run_of handlers old) n)
+  pub refused : (n : ℕ) → IsAt (run_of handlers old) n old → IfErr result (IsRunStepRefusal (run_of handlers old) n)

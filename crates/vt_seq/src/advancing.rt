@@ -8,7 +8,7 @@ ghost use Rattle.vt_model.specs.declared.sending.Sent.{Sent};
 ghost use Rattle.vt_model.specs.Process.{triple_at, IsProcessStream};
 ghost use Rattle.vt_model.specs.Simulation.{simulation_of};
 ghost use Rattle.vt_model.specs.Settings.{end_of};
-ghost use Rattle.vt_seq.specs.Queue.{all_inserted, AreNew};
+ghost use Rattle.vt_seq.specs.Queue.{all_inserted, HaveNewKeys};
 ghost use Rattle.vt_seq.specs.Limits.{IsRefusal};
 ghost use Rattle.vt_seq.specs.StandsFor.{HasExecuted, HasStarted};
 
@@ -94,7 +94,7 @@ fn join<P: Copy>(
     records: &mut Vec<Record>,
 ) -> Result<(), Fault>
     requires some { 0 < length pending.old }
-    requires new { AreNew out.now.sends (drop 1 pending.old) }
+    requires new { HaveNewKeys out.now.sends (drop 1 pending.old) }
     ensures pending { IfOk result (λ _. pending.new ≡ all_inserted out.now.sends (drop 1 pending.old)) }
     ensures records { IfOk result (λ _. records.new.items ≡ records.old.items ++ out.now.records) }
     ensures pending_kept { IfErr result (λ _. pending.new ≡ pending.old) }

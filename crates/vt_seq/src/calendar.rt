@@ -5,8 +5,8 @@ ghost use Rattle.std.specs.List.Sorted.{IsPermutation};
 ghost use Rattle.vt_key.specs.declared.fault.Fault.TheVariants.{Memory, NotLawful};
 ghost use Rattle.vt_key.specs.Times.{ticks_of};
 ghost use Rattle.vt_seq.specs.declared.fit.TheConstants.{MOST_SCALE};
-ghost use Rattle.vt_seq.specs.Entries.{IsFalling, IsFalling-prop, IsLeast};
-ghost use Rattle.vt_seq.specs.Days.{day_of, entries_of, AreDated, AreJustBefore, IsNear, IsSettled};
+ghost use Rattle.vt_seq.specs.Entries.{IsFalling, IsFalling-prop, IsLeastEntry};
+ghost use Rattle.vt_seq.specs.Days.{day_of, calendar_entries, AreDated, AreJustBefore, IsNear, NoneWithoutPresent};
 
 use crate::days::Days;
 use crate::entry::Entry;
@@ -40,7 +40,7 @@ impl<P: Copy> Calendar<P> {
     ///
     /// [`Fault::Memory`]: memory was refused.
     pub(crate) fn new(alloc: Global) -> Result<Calendar<P>, Fault>
-        ensures empty { IfOk result (λ calendar. entries_of calendar.present.items calendar.days ≡ []) }
+        ensures empty { IfOk result (λ calendar. calendar_entries calendar.present.items calendar.days ≡ []) }
         ensures window { IfOk result (λ calendar. (calendar.base ≡ 0) × (calendar.next ≡ 0)) }
         ensures refused { IfErr result (λ fault. fault ≡ Memory) }
     {
@@ -57,8 +57,8 @@ impl<P: Copy> Calendar<P> {
 
     /// The entry of least key.
     pub(crate) fn first(&self) -> Option<&Entry<P>>
-        ensures among { IfSome result (λ x. (others : _) × IsPermutation (entries_of self.now.present.items self.now.days) (x.now ∷ others)) }
-        ensures least { IfSome result (λ x. IsLeast x.now (entries_of self.now.present.items self.now.days)) }
+        ensures among { IfSome result (λ x. (others : _) × IsPermutation (calendar_entries self.now.present.items self.now.days) (x.now ∷ others)) }
+        ensures least { IfSome result (λ x. IsLeastEntry x.now (calendar_entries self.now.present.items self.now.days)) }
         ensures nothing { IfNone result (self.now.present.items ≡ []) }
     {
         let count = self.present.len();
@@ -70,8 +70,8 @@ impl<P: Copy> Calendar<P> {
 
     /// Removes the entry of least key.
     pub(crate) fn remove_first(&mut self) -> Option<Entry<P>>
-        ensures rest { IfSome result (λ x. IsPermutation (entries_of self.old.present.items self.old.days) (x ∷ entries_of self.new.present.items self.new.days)) }
-        ensures least { IfSome result (λ x. IsLeast x (entries_of self.old.present.items self.old.days)) }
+        ensures rest { IfSome result (λ x. IsPermutation (calendar_entries self.old.present.items self.old.days) (x ∷ calendar_entries self.new.present.items self.new.days)) }
+        ensures least { IfSome result (λ x. IsLeastEntry x (calendar_entries self.old.present.items self.old.days)) }
         ensures nothing { IfNone result (self.old.present.items ≡ []) }
         ensures window { (self.new.scale ≡ self.old.scale) × (self.new.base ≡ self.old.base) × (self.new.next ≡ self.old.next) }
     {
@@ -89,8 +89,8 @@ impl<P: Copy> Calendar<P> {
     /// [`Fault::NotLawful`]: its day isn't one. [`Fault::Memory`]: it is, and memory was refused. After either no event has
     /// changed.
     pub(crate) fn put(&mut self, event: &Sent<P>) -> Result<(), Fault>
-        ensures put { IfOk result (λ _. IsPermutation (record { event = event.now } ∷ entries_of self.old.present.items self.old.days) (entries_of self.new.present.items self.new.days)) }
-        ensures kept { IfErr result (λ fault. entries_of self.new.present.items self.new.days ≡ entries_of self.old.present.items self.old.days) }
+        ensures put { IfOk result (λ _. IsPermutation (record { event = event.now } ∷ calendar_entries self.old.present.items self.old.days) (calendar_entries self.new.present.items self.new.days)) }
+        ensures kept { IfErr result (λ fault. calendar_entries self.new.present.items self.new.days ≡ calendar_entries self.old.present.items self.old.days) }
         ensures not_lawful { (IsNear self.old.base self.old.next (day_of self.old.scale (ticks_of event.now.key.time)) → ⊥) → result ≡ Err NotLawful }
         ensures refused { IsNear self.old.base self.old.next (day_of self.old.scale (ticks_of event.now.key.time)) → IfErr result (λ fault. fault ≡ Memory) }
         ensures window { (self.new.scale ≡ self.old.scale) × (self.new.base ≡ self.old.base) × (self.new.next ≡ self.old.next) }
@@ -116,8 +116,8 @@ impl<P: Copy> Calendar<P> {
 
     /// Makes the first day that has an event the present one, if that has none.
     pub(crate) fn settle(&mut self)
-        ensures same { IsPermutation (entries_of self.old.present.items self.old.days) (entries_of self.new.present.items self.new.days) }
-        ensures settled { IsSettled self.new.present.items self.new.days }
+        ensures same { IsPermutation (calendar_entries self.old.present.items self.old.days) (calendar_entries self.new.present.items self.new.days) }
+        ensures settled { NoneWithoutPresent self.new.present.items self.new.days }
         ensures base { (self.new.scale ≡ self.old.scale) × (self.new.base ≡ self.old.base) }
         ensures next { self.new.present.items ≡ [] → self.new.next ≡ self.old.next }
     {
@@ -133,8 +133,8 @@ impl<P: Copy> Calendar<P> {
 
     /// Lets the window begin with the day of a tick, if there is no event.
     pub(crate) fn move_to(&mut self, tick: u64)
-        requires { IsSettled self.old.present.items self.old.days }
-        ensures same { entries_of self.new.present.items self.new.days ≡ entries_of self.old.present.items self.old.days }
+        requires { NoneWithoutPresent self.old.present.items self.old.days }
+        ensures same { calendar_entries self.new.present.items self.new.days ≡ calendar_entries self.old.present.items self.old.days }
         ensures moved { self.old.present.items ≡ [] → (self.new.base ≡ day_of self.new.scale tick) × (self.new.next ≡ 0) }
         ensures stays { (self.old.present.items ≡ [] → ⊥) → (self.new.scale ≡ self.old.scale) × (self.new.base ≡ self.old.base) × (self.new.next ≡ self.old.next) }
     {

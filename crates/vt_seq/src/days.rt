@@ -3,7 +3,7 @@
 ghost use Rattle.std.specs.Prelude.{◌≡◌, ◌+◌, ◌-◌, ◌<◌, ◌≤◌, ◌^◌, [], ◌∷◌, ◌++◌, if◌then◌else◌, is_ok, length, slice_get, vec_len, IfOk, IfErr, IfSome, IfNone, IsTrue, Some, Err};
 ghost use Rattle.vt_key.specs.declared.fault.Fault.TheVariants.{Memory, NotLawful};
 ghost use Rattle.vt_seq.specs.declared.days.TheConstants.{DAYS};
-ghost use Rattle.vt_seq.specs.Days.{joined, IsPut, IsTaken};
+ghost use Rattle.vt_seq.specs.Days.{entries_of_days, IsPut, IsDayTaken};
 
 use crate::entry::Entry;
 use std::alloc::Global;
@@ -33,13 +33,13 @@ impl<P: Copy> Model for Days<P> {
     ghost use Rattle.std.specs.Prelude.{◌≡◌, List, [], IsTrue, map, vec_len};
     ghost use Rattle.vt_seq.specs.declared.days.TheConstants.{DAYS};
     ghost use Rattle.vt_seq.specs.declared.entry.Entry.{Entry};
-    ghost use Rattle.vt_seq.specs.Days.{is_used, joined};
+    ghost use Rattle.vt_seq.specs.Days.{is_used, entries_of_days};
 
     ghost Value = { List (List (Entry P)) };
 
     ghost view = { λ s. map (λ list. list.items) s.days.items };
 
-    ghost invariant = { λ s. (s.marks ≡ map is_used (map (λ list. list.items) s.days.items)) × (IsTrue s.is_clear → joined (map (λ list. list.items) s.days.items) ≡ []) × (vec_len s.days ≡ DAYS) };
+    ghost invariant = { λ s. (s.marks ≡ map is_used (map (λ list. list.items) s.days.items)) × (IsTrue s.is_clear → entries_of_days (map (λ list. list.items) s.days.items) ≡ []) × (vec_len s.days ≡ DAYS) };
 }
 
 impl<P: Copy> Days<P> {
@@ -47,7 +47,7 @@ impl<P: Copy> Days<P> {
     ///
     /// [`Fault::Memory`]: memory was refused.
     pub(crate) fn new(alloc: Global) -> Result<Days<P>, Fault>
-        ensures empty { IfOk result (λ days. joined days ≡ []) }
+        ensures empty { IfOk result (λ days. entries_of_days days ≡ []) }
         ensures refused { IfErr result (λ fault. fault ≡ Memory) }
     {
         let Ok(mut days) = Vec::with_capacity(alloc, DAYS) else {
@@ -99,9 +99,9 @@ impl<P: Copy> Days<P> {
     /// Empties the first day that has an event: its entries take the place of what `present` had. None if no day has one,
     /// which changes nothing.
     pub(crate) fn take_first(&mut self, present: &mut Vec<Entry<P>>) -> Option<usize>
-        ensures taken { IfSome result (λ day. IsTaken day present.new.items self.old self.new) }
+        ensures taken { IfSome result (λ day. IsDayTaken day present.new.items self.old self.new) }
         ensures bound { IfSome result (λ day. day + 1 < 2 ^ 64) }
-        ensures nothing { IfNone result (joined self.old ≡ []) }
+        ensures nothing { IfNone result (entries_of_days self.old ≡ []) }
         ensures kept { IfNone result (self.new ≡ self.old) }
         ensures present_kept { IfNone result (present.new.items ≡ present.old.items) }
     {

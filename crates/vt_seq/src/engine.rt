@@ -9,7 +9,7 @@ ghost use Rattle.vt_model.specs.Simulation.{simulation_of, after};
 ghost use Rattle.vt_model.specs.Sequential.{after_steps, whole_run, events_of, weight};
 ghost use Rattle.vt_model.specs.Settings.{end_of};
 ghost use Rattle.vt_seq.specs.Given.{AddsStep};
-ghost use Rattle.vt_seq.specs.Limits.{IsStepRefusal};
+ghost use Rattle.vt_seq.specs.Limits.{IsRunStepRefusal};
 ghost use Rattle.vt_seq.specs.Queue.{IsWithinRun};
 ghost use Rattle.vt_seq.specs.StandsFor.{StandsAt};
 
@@ -105,7 +105,7 @@ impl<'m, M: EventModel> Engine<'m, M> {
         ensures pending { IfErr result (λ fault. self.new.pending ≡ self.old.pending) }
         ensures records { IfErr result (λ fault. records.new.items ≡ records.old.items) }
         ensures processes { IfErr result (λ fault. self.new.processes.items ≡ self.old.processes.items) }
-        ensures refused { let sim = simulation_of (M.handlers self.old.model.now) self.old.config in (n : ℕ) → StandsAt sim n self.old.pending self.old.processes.items → IfErr result (IsStepRefusal sim n) }
+        ensures refused { let sim = simulation_of (M.handlers self.old.model.now) self.old.config in (n : ℕ) → StandsAt sim n self.old.pending self.old.processes.items → IfErr result (IsRunStepRefusal sim n) }
         ensures faults { IfErr result (λ fault. (fault ≡ Memory) ⊎ (fault ≡ Exhausted)) }
     {
         let Some(event) = self.pending.first() else {

@@ -9,7 +9,7 @@ ghost use Rattle.vt_model.specs.declared.sending.Sent.{Sent};
 ghost use Rattle.vt_model.specs.Simulation.{simulation_of, after};
 ghost use Rattle.vt_model.specs.Sequential.{after_steps, events_of, seq_finals};
 ghost use Rattle.vt_seq.specs.Given.{AddsSteps, AddsRest};
-ghost use Rattle.vt_seq.specs.Limits.{IsCountedWhole, IsStepRefusal};
+ghost use Rattle.vt_seq.specs.Limits.{IsCountedWhole, IsRunStepRefusal};
 ghost use Rattle.vt_seq.specs.Standing.{IsAt, IsOnWay};
 ghost use Rattle.vt_seq.specs.Steps.{IsStep};
 
@@ -128,7 +128,7 @@ impl<'m, M: EventModel> Execution<'m, M> {
         ensures reached { IsOnWay (M.handlers self.old.model) self.old }
         ensures counted { let sim = simulation_of (M.handlers self.old.model) self.old.config in (n : ℕ) → IsAt sim n self.old → IfOk result (λ _. IsCountedWhole sim) }
         ensures faults { IfErr result (λ fault. (fault ≡ Memory) ⊎ (fault ≡ Exhausted)) }
-        ensures refused { let sim = simulation_of (M.handlers self.old.model) self.old.config in (n : ℕ) → IsAt sim n self.old → IfErr result (λ fault. (k : ℕ) × IsAt sim (k + n) self.new × AddsSteps sim n k records.old.items records.new.items × IsStepRefusal sim (k + n) fault) }
+        ensures refused { let sim = simulation_of (M.handlers self.old.model) self.old.config in (n : ℕ) → IsAt sim n self.old → IfErr result (λ fault. (k : ℕ) × IsAt sim (k + n) self.new × AddsSteps sim n k records.old.items records.new.items × IsRunStepRefusal sim (k + n) fault) }
     {
         let mut out = Out::new(self.engine.config, 0, When::tick(0), 0);
         while self.step_reusing(records, &mut out)? {}

@@ -4,9 +4,9 @@ ghost use Rattle.std.specs.Prelude.{◌≡◌, ◌+◌, ◌<◌, ◌≤◌, ◌+
 ghost use Rattle.std.specs.BinaryHeap.{heap_items, heap_len, heap_capacity};
 ghost use Rattle.vt_key.specs.declared.fault.Fault.TheVariants.{Memory};
 ghost use Rattle.vt_key.specs.Times.{ticks_of};
-ghost use Rattle.vt_seq.specs.Queue.{all_inserted, AreNew};
-ghost use Rattle.vt_seq.specs.Entries.{in_order, IsLeast, IsQueue};
-ghost use Rattle.vt_seq.specs.Days.{day_of, entries_of, IsSettled};
+ghost use Rattle.vt_seq.specs.Queue.{all_inserted, HaveNewKeys};
+ghost use Rattle.vt_seq.specs.Entries.{in_order, IsLeastEntry, IsQueue};
+ghost use Rattle.vt_seq.specs.Days.{day_of, calendar_entries, NoneWithoutPresent};
 
 use crate::calendar::Calendar;
 use crate::entry::Entry;
@@ -32,13 +32,13 @@ impl<P: Copy> Model for PendingEvents<P> {
     ghost use Rattle.std.specs.BinaryHeap.{heap_items};
     ghost use Rattle.vt_model.specs.declared.sending.Sent.{Sent};
     ghost use Rattle.vt_seq.specs.Entries.{in_order, IsQueue};
-    ghost use Rattle.vt_seq.specs.Days.{entries_of, IsSettled};
+    ghost use Rattle.vt_seq.specs.Days.{calendar_entries, NoneWithoutPresent};
 
     ghost Value = { List (Sent P) };
 
-    ghost view = { λ s. in_order (entries_of s.calendar.present.items s.calendar.days ++ heap_items s.far) };
+    ghost view = { λ s. in_order (calendar_entries s.calendar.present.items s.calendar.days ++ heap_items s.far) };
 
-    ghost invariant = { λ s. IsQueue (entries_of s.calendar.present.items s.calendar.days) (heap_items s.far) × IsSettled s.calendar.present.items s.calendar.days };
+    ghost invariant = { λ s. IsQueue (calendar_entries s.calendar.present.items s.calendar.days) (heap_items s.far) × NoneWithoutPresent s.calendar.present.items s.calendar.days };
 }
 
 impl<P: Copy> PendingEvents<P> {
@@ -77,7 +77,7 @@ impl<P: Copy> PendingEvents<P> {
     /// [`Fault::Memory`]: memory was refused, and nothing changes.
     pub(crate) fn replace_first(&mut self, sends: &[Sent<P>]) -> Result<(), Fault>
         requires some { 0 < length self.old }
-        requires new { AreNew sends.now (drop 1 self.old) }
+        requires new { HaveNewKeys sends.now (drop 1 self.old) }
         ensures events { IfOk result (λ _. self.new ≡ all_inserted sends.now (drop 1 self.old)) }
         ensures unchanged { IfErr result (λ _. self.new ≡ self.old) }
         ensures refused { IfErr result (λ fault. fault ≡ Memory) }
@@ -94,7 +94,7 @@ impl<P: Copy> PendingEvents<P> {
     ///
     /// [`Fault::Memory`]: memory was refused, and nothing changes.
     pub(crate) fn insert_all(&mut self, events: &[Sent<P>]) -> Result<(), Fault>
-        requires { AreNew events.now self.old }
+        requires { HaveNewKeys events.now self.old }
         ensures events { IfOk result (λ _. self.new ≡ all_inserted events.now self.old) }
         ensures unchanged { IfErr result (λ _. self.new ≡ self.old) }
         ensures refused { IfErr result (λ fault. fault ≡ Memory) }
@@ -109,12 +109,12 @@ impl<P: Copy> PendingEvents<P> {
 
 /// Whether the heap's top is the first of all events.
 fn is_far_first<P: Copy>(calendar: &Calendar<P>, far: &BinaryHeap<Entry<P>>) -> bool
-    requires queue { IsQueue (entries_of calendar.now.present.items calendar.now.days) (heap_items far.now) }
-    requires settled { IsSettled calendar.now.present.items calendar.now.days }
-    ensures far { IsTrue result → (x : _) → x ≡ slice_index_or (heap_items far.now) 0 x → IsLeast x (entries_of calendar.now.present.items calendar.now.days) }
+    requires queue { IsQueue (calendar_entries calendar.now.present.items calendar.now.days) (heap_items far.now) }
+    requires settled { NoneWithoutPresent calendar.now.present.items calendar.now.days }
+    ensures far { IsTrue result → (x : _) → x ≡ slice_index_or (heap_items far.now) 0 x → IsLeastEntry x (calendar_entries calendar.now.present.items calendar.now.days) }
     ensures some { IsTrue result → 0 < heap_len far.now }
-    ensures near { result ≡ false → (x : _) → IsLeast x (entries_of calendar.now.present.items calendar.now.days) → IsLeast x (heap_items far.now) }
-    ensures nothing { result ≡ false → calendar.now.present.items ≡ [] → entries_of calendar.now.present.items calendar.now.days ++ heap_items far.now ≡ [] }
+    ensures near { result ≡ false → (x : _) → IsLeastEntry x (calendar_entries calendar.now.present.items calendar.now.days) → IsLeastEntry x (heap_items far.now) }
+    ensures nothing { result ≡ false → calendar.now.present.items ≡ [] → calendar_entries calendar.now.present.items calendar.now.days ++ heap_items far.now ≡ [] }
 {
     let Some(far) = far.peek() else {
         return false;
@@ -127,11 +127,11 @@ fn is_far_first<P: Copy>(calendar: &Calendar<P>, far: &BinaryHeap<Entry<P>>) -> 
 
 /// Removes the first of all events, which must be there. A calendar that is empty goes on from its tick.
 fn remove_first<P: Copy>(calendar: &mut Calendar<P>, far: &mut BinaryHeap<Entry<P>>)
-    requires queue { IsQueue (entries_of calendar.old.present.items calendar.old.days) (heap_items far.old) }
-    requires settled { IsSettled calendar.old.present.items calendar.old.days }
-    requires some { 0 < length (in_order (entries_of calendar.old.present.items calendar.old.days ++ heap_items far.old)) }
-    ensures rest { IsQueue (entries_of calendar.new.present.items calendar.new.days) (heap_items far.new) × (in_order (entries_of calendar.new.present.items calendar.new.days ++ heap_items far.new) ≡ drop 1 (in_order (entries_of calendar.old.present.items calendar.old.days ++ heap_items far.old))) }
-    ensures moved { calendar.old.present.items ≡ [] → (d : _) → slice_get (in_order (entries_of calendar.old.present.items calendar.old.days ++ heap_items far.old)) 0 ≡ Some d → (calendar.new.base ≡ day_of calendar.new.scale (ticks_of d.key.time)) × (calendar.new.next ≡ 0) }
+    requires queue { IsQueue (calendar_entries calendar.old.present.items calendar.old.days) (heap_items far.old) }
+    requires settled { NoneWithoutPresent calendar.old.present.items calendar.old.days }
+    requires some { 0 < length (in_order (calendar_entries calendar.old.present.items calendar.old.days ++ heap_items far.old)) }
+    ensures rest { IsQueue (calendar_entries calendar.new.present.items calendar.new.days) (heap_items far.new) × (in_order (calendar_entries calendar.new.present.items calendar.new.days ++ heap_items far.new) ≡ drop 1 (in_order (calendar_entries calendar.old.present.items calendar.old.days ++ heap_items far.old))) }
+    ensures moved { calendar.old.present.items ≡ [] → (d : _) → slice_get (in_order (calendar_entries calendar.old.present.items calendar.old.days ++ heap_items far.old)) 0 ≡ Some d → (calendar.new.base ≡ day_of calendar.new.scale (ticks_of d.key.time)) × (calendar.new.next ≡ 0) }
     ensures stays { (calendar.old.present.items ≡ [] → ⊥) → (calendar.new.scale ≡ calendar.old.scale) × (calendar.new.base ≡ calendar.old.base) × (calendar.new.next ≡ calendar.old.next) }
     ensures capacity { heap_capacity far.new ≡ heap_capacity far.old }
     ensures len { heap_len far.new ≤ heap_len far.old }
@@ -151,11 +151,11 @@ fn remove_first<P: Copy>(calendar: &mut Calendar<P>, far: &mut BinaryHeap<Entry<
 /// Puts events into the calendar, and those that it doesn't take into the heap, where there must be room for all.
 fn put_all<P: Copy>(calendar: &mut Calendar<P>, far: &mut BinaryHeap<Entry<P>>, events: &[Sent<P>])
     requires room { heap_len far.old + length events.now ≤ heap_capacity far.old }
-    requires queue { IsQueue (entries_of calendar.old.present.items calendar.old.days) (heap_items far.old) }
-    requires new { AreNew events.now (in_order (entries_of calendar.old.present.items calendar.old.days ++ heap_items far.old)) }
-    ensures events { in_order (entries_of calendar.new.present.items calendar.new.days ++ heap_items far.new) ≡ all_inserted events.now (in_order (entries_of calendar.old.present.items calendar.old.days ++ heap_items far.old)) }
-    ensures queue { IsQueue (entries_of calendar.new.present.items calendar.new.days) (heap_items far.new) }
-    ensures settled { IsSettled calendar.new.present.items calendar.new.days }
+    requires queue { IsQueue (calendar_entries calendar.old.present.items calendar.old.days) (heap_items far.old) }
+    requires new { HaveNewKeys events.now (in_order (calendar_entries calendar.old.present.items calendar.old.days ++ heap_items far.old)) }
+    ensures events { in_order (calendar_entries calendar.new.present.items calendar.new.days ++ heap_items far.new) ≡ all_inserted events.now (in_order (calendar_entries calendar.old.present.items calendar.old.days ++ heap_items far.old)) }
+    ensures queue { IsQueue (calendar_entries calendar.new.present.items calendar.new.days) (heap_items far.new) }
+    ensures settled { NoneWithoutPresent calendar.new.present.items calendar.new.days }
     ensures base { (calendar.new.scale ≡ calendar.old.scale) × (calendar.new.base ≡ calendar.old.base) }
 {
     for event in events {

@@ -6,8 +6,8 @@ ghost use Rattle.vt_model.specs.Simulation.{simulation_of, after};
 ghost use Rattle.vt_model.specs.Sequential.{after_steps, events_of, rows_after, rows_before, records_of, seq_records, seq_finals};
 ghost use Rattle.vt_model.specs.Rows.{record_time};
 ghost use Rattle.vt_model.specs.Settings.{end_of};
-ghost use Rattle.vt_seq.specs.Limits.{IsCounted, IsCountedWhole, IsStepRefusal};
-ghost use Rattle.vt_seq.specs.Progress.{IsAfter, IsReached};
+ghost use Rattle.vt_seq.specs.Limits.{IsCounted, IsCountedWhole, IsRunStepRefusal};
+ghost use Rattle.vt_seq.specs.Progress.{IsAfter, IsAfterSomeSteps};
 
 use crate::execution::Execution;
 use std::alloc::Global;
@@ -19,7 +19,7 @@ use vt_model::{Config, Model as EventModel, Record};
 ///
 /// Contracts see it as its model and config, the pending events, where each process stands and the records so far, and say by
 /// `IsAfter sim n` that it is where the sequential run of the definitions is after `n` steps. The type keeps that it is there
-/// after some number of steps (`IsReached`).
+/// after some number of steps (`IsAfterSomeSteps`).
 #[derive(Drop)]
 pub struct Sequential<'m, M: EventModel> {
     execution: Execution<'m, M>,
@@ -27,13 +27,13 @@ pub struct Sequential<'m, M: EventModel> {
 }
 
 impl<'m, M: EventModel> Model for Sequential<'m, M> {
-    ghost use Rattle.vt_seq.specs.Progress.{Progress, IsReached, with_records};
+    ghost use Rattle.vt_seq.specs.Progress.{Progress, IsAfterSomeSteps, with_records};
 
     ghost Value = { Progress M M.State M.Payload };
 
     ghost view = { λ s. with_records s.execution s.records.items };
 
-    ghost invariant = { λ s. IsReached (M.handlers s.execution.model) (with_records s.execution s.records.items) };
+    ghost invariant = { λ s. IsAfterSomeSteps (M.handlers s.execution.model) (with_records s.execution s.records.items) };
 }
 
 impl<'m, M: EventModel> Sequential<'m, M> {
@@ -55,7 +55,7 @@ impl<'m, M: EventModel> Sequential<'m, M> {
     /// None where there is no such process.
     pub fn number(&self, p: u32) -> Option<u64>
         ensures unknown { IfNone result (self.now.config.lps ≤ p) }
-        ensures reached { IsReached (M.handlers self.now.model) self.now }
+        ensures reached { IsAfterSomeSteps (M.handlers self.now.model) self.now }
         ensures value { let sim = simulation_of (M.handlers self.now.model) self.now.config in (n : ℕ) → IsAfter sim n self.now → IfSome result (λ v. (p < self.now.config.lps) × (v ≡ (after sim p (events_of p (after_steps sim n).executed)).number)) }
     {
         self.execution.number(p)
@@ -65,7 +65,7 @@ impl<'m, M: EventModel> Sequential<'m, M> {
     /// drawn, modulo 2^64. None where there is no such process.
     pub fn place(&self, p: u32) -> Option<u64>
         ensures unknown { IfNone result (self.now.config.lps ≤ p) }
-        ensures reached { IsReached (M.handlers self.now.model) self.now }
+        ensures reached { IsAfterSomeSteps (M.handlers self.now.model) self.now }
         ensures value { let sim = simulation_of (M.handlers self.now.model) self.now.config in (n : ℕ) → IsAfter sim n self.now → IfSome result (λ v. (p < self.now.config.lps) × (v ≡ (after sim p (events_of p (after_steps sim n).executed)).place)) }
     {
         self.execution.place(p)
@@ -76,7 +76,7 @@ impl<'m, M: EventModel> Sequential<'m, M> {
     /// [`Fault::Memory`]: memory was refused.
     pub fn records_below(&self, alloc: Global, t: When) -> Result<Vec<Record>, Fault>
         ensures rows { let sim = simulation_of (M.handlers self.now.model) self.now.config in (n : ℕ) → IsAfter sim n self.now → IfOk result (λ v. v.items ≡ records_of (rows_before t (rows_after sim [] (after_steps sim n).executed))) }
-        ensures reached { IsReached (M.handlers self.now.model) self.now }
+        ensures reached { IsAfterSomeSteps (M.handlers self.now.model) self.now }
         ensures refused { IfErr result (λ fault. fault ≡ Fault.Memory) }
     {
         copy_below(alloc, &self.records, t)
@@ -94,9 +94,9 @@ impl<'m, M: EventModel> Sequential<'m, M> {
         ensures steps { let sim = simulation_of (M.handlers self.old.model) self.old.config in (n : ℕ) → IsAfter sim n self.old → IfOk result (λ more. IsAfter sim (suc n) self.new) }
         ensures kept { IfErr result (λ fault. self.new ≡ self.old) }
         ensures faults { IfErr result (λ fault. (fault ≡ Fault.Memory) ⊎ (fault ≡ Fault.Exhausted)) }
-        ensures reached { IsReached (M.handlers self.old.model) self.old }
+        ensures reached { IsAfterSomeSteps (M.handlers self.old.model) self.old }
         ensures counted { let sim = simulation_of (M.handlers self.old.model) self.old.config in (n : ℕ) → IsAfter sim n self.old → IfOk result (λ more. IsCounted sim (suc n)) }
-        ensures refused { let sim = simulation_of (M.handlers self.old.model) self.old.config in (n : ℕ) → IsAfter sim n self.old → IfErr result (IsStepRefusal sim n) }
+        ensures refused { let sim = simulation_of (M.handlers self.old.model) self.old.config in (n : ℕ) → IsAfter sim n self.old → IfErr result (IsRunStepRefusal sim n) }
     {
         self.execution.step(&mut self.records)
     }
@@ -111,10 +111,10 @@ impl<'m, M: EventModel> Sequential<'m, M> {
         ensures whole { let sim = simulation_of (M.handlers self.old.model) self.old.config in IfOk result (λ _. self.new.records ≡ seq_records sim (end_of self.old.config)) }
         ensures nothing_left { IfOk result (λ _. self.new.pending ≡ []) }
         ensures steps { let sim = simulation_of (M.handlers self.old.model) self.old.config in (n : ℕ) → IsAfter sim n self.old → (k : ℕ) × IsAfter sim (k + n) self.new }
-        ensures reached { IsReached (M.handlers self.old.model) self.old }
+        ensures reached { IsAfterSomeSteps (M.handlers self.old.model) self.old }
         ensures counted { IfOk result (λ _. IsCountedWhole (simulation_of (M.handlers self.old.model) self.old.config)) }
         ensures faults { IfErr result (λ fault. (fault ≡ Fault.Memory) ⊎ (fault ≡ Fault.Exhausted)) }
-        ensures refused { let sim = simulation_of (M.handlers self.old.model) self.old.config in (n : ℕ) → IsAfter sim n self.old → IfErr result (λ fault. (k : ℕ) × IsAfter sim (k + n) self.new × IsStepRefusal sim (k + n) fault) }
+        ensures refused { let sim = simulation_of (M.handlers self.old.model) self.old.config in (n : ℕ) → IsAfter sim n self.old → IfErr result (λ fault. (k : ℕ) × IsAfter sim (k + n) self.new × IsRunStepRefusal sim (k + n) fault) }
     {
         self.execution.complete(&mut self.records)
     }
@@ -122,7 +122,7 @@ impl<'m, M: EventModel> Sequential<'m, M> {
     /// The records of the events executed so far, in the order of their rows.
     pub fn records(&self) -> &[Record]
         ensures records { result.now ≡ self.now.records }
-        ensures reached { IsReached (M.handlers self.now.model) self.now }
+        ensures reached { IsAfterSomeSteps (M.handlers self.now.model) self.now }
     {
         self.records.as_slice()
     }
@@ -137,10 +137,10 @@ impl<'m, M: EventModel> Sequential<'m, M> {
         ensures whole { let sim = simulation_of (M.handlers self.old.model) self.old.config in IfOk result (λ v. v.items ≡ seq_records sim (end_of self.old.config)) }
         ensures nothing_left { IfOk result (λ v. self.new.pending ≡ []) }
         ensures steps { let sim = simulation_of (M.handlers self.old.model) self.old.config in (n : ℕ) → IsAfter sim n self.old → (k : ℕ) × IsAfter sim (k + n) self.new }
-        ensures reached { IsReached (M.handlers self.old.model) self.old }
+        ensures reached { IsAfterSomeSteps (M.handlers self.old.model) self.old }
         ensures counted { IfOk result (λ v. IsCountedWhole (simulation_of (M.handlers self.old.model) self.old.config)) }
         ensures faults { IfErr result (λ fault. (fault ≡ Fault.Memory) ⊎ (fault ≡ Fault.Exhausted)) }
-        ensures refused { let sim = simulation_of (M.handlers self.old.model) self.old.config in (n : ℕ) → IsAfter sim n self.old → IfErr result (λ fault. (k : ℕ) × IsAfter sim (k + n) self.new × IsStepRefusal sim (k + n) fault) }
+        ensures refused { let sim = simulation_of (M.handlers self.old.model) self.old.config in (n : ℕ) → IsAfter sim n self.old → IfErr result (λ fault. (k : ℕ) × IsAfter sim (k + n) self.new × IsRunStepRefusal sim (k + n) fault) }
     {
         self.complete()?;
         let Ok(records) = Vec::from_slice(alloc, &self.records) else {
@@ -155,7 +155,7 @@ impl<'m, M: EventModel> Sequential<'m, M> {
     pub fn finals(&self, alloc: Global) -> Result<Vec<u64>, Fault>
         ensures values { let sim = simulation_of (M.handlers self.now.model) self.now.config in IfOk result (λ v. v.items ≡ seq_finals sim) }
         ensures nothing_left { IfOk result (λ v. self.now.pending ≡ []) }
-        ensures reached { IsReached (M.handlers self.now.model) self.now }
+        ensures reached { IsAfterSomeSteps (M.handlers self.now.model) self.now }
         ensures not_lawful { 0 < length self.now.pending → result ≡ Err Fault.NotLawful }
         ensures refused { self.now.pending ≡ [] → IfErr result (λ fault. fault ≡ Fault.Memory) }
     {

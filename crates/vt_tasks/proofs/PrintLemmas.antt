@@ -11,7 +11,7 @@ use Rattle.vt_model.specs.Settings.{end_of}
 use Rattle.vt_model.specs.Simulation.{Simulation, simulation_of}
 use Rattle.vt_model.specs.Sequential.{seq_records}
 use Rattle.vt_seq.specs.Given.{records_to, BeginRun, AddsStep}
-use Rattle.vt_seq.specs.Limits.{IsStepRefusal}
+use Rattle.vt_seq.specs.Limits.{IsRunStepRefusal}
 use Rattle.vt_seq.specs.Standing.{Standing, IsAt}
 use Rattle.vt_text.specs.declared.version.Version.{Version}
 use Rattle.vt_text.specs.Records.{first_line, record_text, record_lines, records_text}
@@ -104,10 +104,10 @@ module _ {version : Version} {M S P K : Type 0} {handlers : Handlers S P K} {con
         }
 
     -- a step was refused
-    pub step_stops : {fault : Fault} → ((n : ℕ) → IsAt own n execution → IsStepRefusal own n fault) → StopsRun (PassesInRun handlers config) old now (run_text version handlers config) fault
+    pub step_stops : {fault : Fault} → ((n : ℕ) → IsAt own n execution → IsRunStepRefusal own n fault) → StopsRun (PassesInRun handlers config) old now (run_text version handlers config) fault
     step_stops {fault} refused =
         let n : ℕ = g.steps in
-        let why : IsStepRefusal (simulation_of handlers config) n fault = subst (λ (s : Simulation S P). IsStepRefusal s n fault) same (refused n own_at) in
+        let why : IsRunStepRefusal (simulation_of handlers config) n fault = subst (λ (s : Simulation S P). IsRunStepRefusal s n fault) same (refused n own_at) in
         elim why [
           | inl h ↦ subst (StopsRun (PassesInRun handlers config) old now (run_text version handlers config)) (sym h.0) ((suc n, h.1), begun)
           | inr h ↦ subst (StopsRun (PassesInRun handlers config) old now (run_text version handlers config)) (sym h.0) begun

@@ -9,7 +9,7 @@ use Rattle.vt_model.specs.Handler.{Handlers}
 use Rattle.vt_model.specs.Simulation.{simulation_of}
 use Rattle.vt_model.specs.Sequential.{seq_records}
 use Rattle.vt_model.specs.Settings.{end_of}
-use Rattle.vt_seq.specs.Limits.{PassesLimit}
+use Rattle.vt_seq.specs.Limits.{PassesNumberLimit}
 use Rattle.vt_text.specs.declared.version.Version.{Version}
 use Rattle.vt_text.specs.Records.{records_text}
 use Rattle.vt_text.specs.Writing.{AppendsBeginning}
@@ -26,7 +26,7 @@ run_text version handlers config = text_below version handlers config (end_of co
 
 -- some step of a model's sequential run would take a send number past its limit
 abbrev pub PassesInRun : {S P K : Type 0} → Handlers S P K → Config → Type 0
-PassesInRun handlers config = (n : ℕ) × PassesLimit (simulation_of handlers config) n
+PassesInRun handlers config = (n : ℕ) × PassesNumberLimit (simulation_of handlers config) n
 
 -- the text below some time was written, which is a beginning of the whole
 pub record WritesBelow (below : Time → List ℕ) (whole : List ℕ) (old new : Option (List ℕ)) : Type 0 where

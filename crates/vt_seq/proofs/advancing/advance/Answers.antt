@@ -7,7 +7,7 @@ use Rattle.vt_model.specs.declared.sending.Sent.{Sent}
 use Rattle.vt_model.specs.Process.{triple_at}
 use Rattle.vt_model.specs.Simulation.{simulation_of}
 use Rattle.vt_model.proofs.LawLemmas.{lawful_of}
-use Rattle.vt_seq.specs.Queue.{all_inserted, AreNew}
+use Rattle.vt_seq.specs.Queue.{all_inserted, HaveNewKeys}
 use Rattle.vt_seq.proofs.InsertedLemmas.{are_new}
 use Rattle.vt_seq.proofs.StepLemmas.{drop-among}
 use Rattle.vt_model.proofs.Sizes.{out_fits}
@@ -38,8 +38,8 @@ join-requires g c =
     let t = triple_at p.state p.number p.stream in
     let fired = sim.fire event.dest t event in
     let events = c.args.pending.now in
-    let new : AreNew fired.sends (drop 1 events) = are_new event.dest p.number fired.triple.number fired.sends (drop 1 events) (lawful.numbered event.dest t event c.requires.known) (λ d m source. c.requires.earlier d (drop-among d events m) source) in
-    (out_fits _ _ g.met.M.Model.payload_align g.met.M.Model.payload_size, (c.requires.some, subst (λ (es : List (Sent _)). AreNew es (drop 1 events)) (sym c.execute_into-kept.ensures.fires.sends) new))
+    let new : HaveNewKeys fired.sends (drop 1 events) = are_new event.dest p.number fired.triple.number fired.sends (drop 1 events) (lawful.numbered event.dest t event c.requires.known) (λ d m source. c.requires.earlier d (drop-among d events m) source) in
+    (out_fits _ _ g.met.M.Model.payload_align g.met.M.Model.payload_size, (c.requires.some, subst (λ (es : List (Sent _)). HaveNewKeys es (drop 1 events)) (sym c.execute_into-kept.ensures.fires.sends) new))
 
 pub returns-in-Ok-clause-done : goal.returns-in-Ok-clause-done
 returns-in-Ok-clause-done g c =

@@ -8,7 +8,7 @@ use Rattle.vt_model.specs.declared.sending.Sent.{Sent}
 use Rattle.vt_model.specs.Simulation.{simulation_of}
 use Rattle.vt_model.proofs.LawLemmas.{lawful_of}
 use Rattle.vt_model.specs.Settings.{end_of}
-use Rattle.vt_seq.specs.Queue.{all_inserted, AreNew}
+use Rattle.vt_seq.specs.Queue.{all_inserted, HaveNewKeys}
 use Rattle.vt_seq.proofs.InsertedLemmas.{are_new}
 use Rattle.vt_seq.proofs.StartLemmas.{started_so}
 use Rattle.vt_model.proofs.Sizes.{out_fits, first_out}
@@ -47,7 +47,7 @@ insert_all-requires g c =
     let sim = simulation_of (g.M.Model.handlers model) config in
     let lawful = lawful_of (g.M.Model.handlers model) config (g.met.M.Model.start_within model) (g.met.M.Model.forward_within model) in
     let fired = sim.start c.args.p in
-    subst (λ (es : List (Sent _)). AreNew es c.args.pending.now) (sym (c.sends.ensures ∙ r.sends))
+    subst (λ (es : List (Sent _)). HaveNewKeys es c.args.pending.now) (sym (c.sends.ensures ∙ r.sends))
     (are_new c.args.p 0 fired.triple.number fired.sends c.args.pending.now (lawful.numbered_start c.args.p c.requires.known)
     (λ d a source. let less : d.key.source < c.args.p = c.requires.others d a in absurd (omega (arith, less, source))))
 

@@ -3,9 +3,9 @@ use Rattle.std.specs.BinaryHeap.{heap_items, heap_len, heap_capacity}
 use Rattle.std.proofs.lemmas.List.{drop_more, drop_all}
 use Rattle.vt_model.specs.declared.sending.Sent.{Sent}
 use Rattle.vt_seq.specs.declared.entry.Entry.{Entry}
-use Rattle.vt_seq.specs.Queue.{all_inserted, AreNew}
+use Rattle.vt_seq.specs.Queue.{all_inserted, HaveNewKeys}
 use Rattle.vt_seq.specs.Entries.{in_order}
-use Rattle.vt_seq.specs.Days.{entries_of}
+use Rattle.vt_seq.specs.Days.{calendar_entries}
 use Rattle.vt_seq.proofs.HeapLemmas.{IsPutAmong, near-put, far-put, near-reordered, refused-kept, done-put}
 use Rattle.vt_seq.proofs.pending.put_all.Goals.{then-is_err+in-Ok, else-is_err}
 use Rattle.vt_seq.proofs.pending.put_all.Goals as goal
@@ -18,12 +18,12 @@ loop-event-preserved g c =
     let event = c.event-item.result in
     let x : Entry _ = record { event = event } in
     let rest = drop (i + 1) events in
-    let near = entries_of c.loop-event.calendar.present.items c.loop-event.calendar.days in
+    let near = calendar_entries c.loop-event.calendar.present.items c.loop-event.calendar.days in
     let far = heap_items c.loop-event.far in
-    let now = entries_of c.put.new.self.present.items c.put.new.self.days in
+    let now = calendar_entries c.put.new.self.present.items c.put.new.self.days in
     let old = in_order (near ++ far) in
     let more : drop i events ≡ event ∷ rest = drop_more events i event c.loop-event-test.true ∙ ap (λ (e : Sent _). e ∷ rest) (sym c.event-item.is) in
-    let fresh : AreNew (event ∷ rest) old = subst (λ (es : List (Sent _)). AreNew es old) more inv.fresh in
+    let fresh : HaveNewKeys (event ∷ rest) old = subst (λ (es : List (Sent _)). HaveNewKeys es old) more inv.fresh in
     let longer : length (drop i events) ≡ suc (length rest) = ap length more in
     let put : IsPutAmong x near far now (heap_items c.if-is_err.far) = elim c.if-is_err.branch [
       | then-is_err+in-Ok w ↦
@@ -39,7 +39,7 @@ loop-event-preserved g c =
     record {
       room = room;
       queue = put.0;
-      fresh = subst (AreNew rest) (sym put.1) fresh.1;
+      fresh = subst (HaveNewKeys rest) (sym put.1) fresh.1;
       base = (c.put.ensures.window.0 ∙ inv.base.0, c.put.ensures.window.1 ∙ inv.base.1);
       same = ap (all_inserted rest) put.1 ∙ ap (λ (es : List (Sent _)). all_inserted es old) (sym more) ∙ inv.same;
     }
@@ -47,14 +47,14 @@ loop-event-preserved g c =
 pub returns-clause-events : goal.returns-clause-events
 returns-clause-events g c =
     let inv = c.loop-event.invariant in
-    let near = entries_of c.loop-event.calendar.present.items c.loop-event.calendar.days in
-    let settled = entries_of c.settle.new.self.present.items c.settle.new.self.days in
+    let near = calendar_entries c.loop-event.calendar.present.items c.loop-event.calendar.days in
+    let settled = calendar_entries c.settle.new.self.present.items c.settle.new.self.days in
     let old = in_order (near ++ heap_items c.loop-event.far) in
     let none = drop_all c.loop-event.event-index c.args.events.now (omega (arith, c.loop-event-test.false)) in
     (near-reordered near (heap_items c.loop-event.far) settled inv.queue c.settle.ensures.same).1 ∙ ap (λ (es : List (Sent _)). all_inserted es old) (sym none) ∙ inv.same
 
 pub returns-clause-queue : goal.returns-clause-queue
 returns-clause-queue g c =
-    let near = entries_of c.loop-event.calendar.present.items c.loop-event.calendar.days in
-    let settled = entries_of c.settle.new.self.present.items c.settle.new.self.days in
+    let near = calendar_entries c.loop-event.calendar.present.items c.loop-event.calendar.days in
+    let settled = calendar_entries c.settle.new.self.present.items c.settle.new.self.days in
     (near-reordered near (heap_items c.loop-event.far) settled c.loop-event.invariant.queue c.settle.ensures.same).0

@@ -3,8 +3,8 @@ use Rattle.std.specs.BinaryHeap.{heap_items}
 use Rattle.vt_key.specs.Times.{ticks_of}
 use Rattle.vt_model.specs.declared.sending.Sent.{Sent}
 use Rattle.vt_seq.specs.declared.entry.Entry.{Entry}
-use Rattle.vt_seq.specs.Entries.{in_order, IsLeast, IsQueue}
-use Rattle.vt_seq.specs.Days.{day_of, entries_of}
+use Rattle.vt_seq.specs.Entries.{in_order, IsLeastEntry, IsQueue}
+use Rattle.vt_seq.specs.Days.{day_of, calendar_entries}
 use Rattle.vt_seq.proofs.HeapLemmas.{top-least, least-popped, least-append, in-far, first-event, near-removed, far-removed}
 use Rattle.vt_seq.proofs.pending.remove_first.Given.{Over}
 use Rattle.vt_seq.proofs.pending.remove_first.Goals as goal
@@ -15,19 +15,19 @@ pub returns-then-not-is_far_first-clause-rest : goal.returns-then-not-is_far_fir
 returns-then-not-is_far_first-clause-rest g c =
     let it = c.args.calendar.now in
     let x : Entry _ = c.in-Some.field-0 in
-    let left = entries_of c.remove_first.new.self.present.items c.remove_first.new.self.days in
-    near-removed x (entries_of it.present.items it.days) left (heap_items c.args.far.now) c.requires.queue c.in-Some.ensures.rest c.in-Some.ensures.least (c.if-not-is_far_first.ensures.near refl x c.in-Some.ensures.least)
+    let left = calendar_entries c.remove_first.new.self.present.items c.remove_first.new.self.days in
+    near-removed x (calendar_entries it.present.items it.days) left (heap_items c.args.far.now) c.requires.queue c.in-Some.ensures.rest c.in-Some.ensures.least (c.if-not-is_far_first.ensures.near refl x c.in-Some.ensures.least)
 
 pub returns-then-not-is_far_first-clause-moved : goal.returns-then-not-is_far_first-clause-moved
 returns-then-not-is_far_first-clause-moved g c none =
     let it = c.args.calendar.now in
-    let empty : length (in_order (entries_of it.present.items it.days ++ heap_items c.args.far.now)) ≡ 0 = ap (λ (l : List (Entry _)). length (in_order l)) (c.if-not-is_far_first.ensures.nothing refl none) in
+    let empty : length (in_order (calendar_entries it.present.items it.days ++ heap_items c.args.far.now)) ≡ 0 = ap (λ (l : List (Entry _)). length (in_order l)) (c.if-not-is_far_first.ensures.nothing refl none) in
     absurd (omega (arith, empty, c.requires.some))
 
 -- ---- it is the heap's top
 
 least : (g : Over) (c : goal.After-move_to g)
-    → let it = c.args.calendar.now in IsLeast c.in-Some-pop.entry (entries_of it.present.items it.days) × IsLeast c.in-Some-pop.entry (heap_items c.args.far.now)
+    → let it = c.args.calendar.now in IsLeastEntry c.in-Some-pop.entry (calendar_entries it.present.items it.days) × IsLeastEntry c.in-Some-pop.entry (heap_items c.args.far.now)
 least g c =
     let x : Entry _ = c.in-Some-pop.entry in
     let left = heap_items c.pop.new.self in
@@ -36,7 +36,7 @@ least g c =
 pub returns-clause-rest : goal.returns-clause-rest
 returns-clause-rest g c =
     let it = c.args.calendar.now in
-    let near = entries_of it.present.items it.days in
+    let near = calendar_entries it.present.items it.days in
     let far = heap_items c.args.far.now in
     let left = heap_items c.pop.new.self in
     let first = least g c in
@@ -47,7 +47,7 @@ pub returns-clause-moved : goal.returns-clause-moved
 returns-clause-moved g c none d at =
     let it = c.args.calendar.now in
     let x : Entry _ = c.in-Some-pop.entry in
-    let near = entries_of it.present.items it.days in
+    let near = calendar_entries it.present.items it.days in
     let far = heap_items c.args.far.now in
     let left = heap_items c.pop.new.self in
     let first = least g c in

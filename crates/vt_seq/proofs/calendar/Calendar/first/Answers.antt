@@ -1,6 +1,6 @@
 use Rattle.std.proofs.Common.{◌≡◌, ◌+◌, ◌-◌, ◌++◌, List, [], ◌∷◌, length, rules}
 use Rattle.vt_seq.specs.declared.entry.Entry.{Entry}
-use Rattle.vt_seq.specs.Days.{joined}
+use Rattle.vt_seq.specs.Days.{entries_of_days}
 use Rattle.vt_seq.proofs.CalendarLemmas.{last-split, last-out, last-least}
 use Rattle.vt_seq.proofs.calendar.Calendar.first.Given.{Over}
 use Rattle.vt_seq.proofs.calendar.Calendar.first.Goals as goal
@@ -15,7 +15,7 @@ split g c =
 pub returns-clause-among : goal.returns-clause-among
 returns-clause-among g c =
     let it = c.args.self.now in
-    ((split g c).0 ++ joined it.days, last-out it.present.items (split g c).0 (joined it.days) c.index.result.now (split g c).1)
+    ((split g c).0 ++ entries_of_days it.days, last-out it.present.items (split g c).0 (entries_of_days it.days) c.index.result.now (split g c).1)
 
 pub returns-clause-least : goal.returns-clause-least
 returns-clause-least g c =

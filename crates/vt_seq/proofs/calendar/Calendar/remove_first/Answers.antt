@@ -1,5 +1,5 @@
 use Rattle.std.proofs.Common.{◌+◌}
-use Rattle.vt_seq.specs.Days.{joined}
+use Rattle.vt_seq.specs.Days.{entries_of_days}
 use Rattle.vt_seq.proofs.CalendarLemmas.{falling-left, just-left, last-out, last-least}
 use Rattle.vt_seq.proofs.calendar.Calendar.remove_first.Goals as goal
 
@@ -15,7 +15,7 @@ invariant_of-self g c =
     }
 
 pub returns-clause-rest : goal.returns-clause-rest
-returns-clause-rest g c = last-out c.args.self.now.present.items c.pop.new.self.items (joined c.args.self.now.days) c.in-Some.entry c.in-Some.ensures.items
+returns-clause-rest g c = last-out c.args.self.now.present.items c.pop.new.self.items (entries_of_days c.args.self.now.days) c.in-Some.entry c.in-Some.ensures.items
 
 pub returns-clause-least : goal.returns-clause-least
 returns-clause-least g c =

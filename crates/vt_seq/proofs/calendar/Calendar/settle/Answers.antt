@@ -2,7 +2,7 @@ use Rattle.std.proofs.Common.{◌≡◌, ◌+◌, ◌++◌, ◌∙◌, [], List,
 use Rattle.std.specs.List.Sorted.{IsPermutation}
 use Rattle.std.proofs.lemmas.List.{nil_from_length}
 use Rattle.vt_seq.specs.declared.entry.Entry.{Entry}
-use Rattle.vt_seq.specs.Days.{joined, AreDated}
+use Rattle.vt_seq.specs.Days.{entries_of_days, AreDated}
 use Rattle.vt_seq.proofs.CalendarLemmas.{sorted-falling, just-permuted, taken-just, dated-taken, entries-taken, none-falling, none-just}
 use Rattle.vt_seq.proofs.calendar.Calendar.settle.Goals as goal
 
@@ -39,5 +39,5 @@ returns-in-Some-clause-same g c =
     let sorted = c.sort_unstable.new.self.items in
     let zero : length it.present.items ≡ 0 = search rules in
     let none : it.present.items ≡ [] = nil_from_length it.present.items zero in
-    subst (λ (l : List (Entry _)). IsPermutation (l ++ joined it.days) (sorted ++ joined c.take_first.new.self)) (sym none)
+    subst (λ (l : List (Entry _)). IsPermutation (l ++ entries_of_days it.days) (sorted ++ entries_of_days c.take_first.new.self)) (sym none)
     (entries-taken c.in-Some.day c.take_first.new.present.items sorted it.days c.take_first.new.self c.in-Some.ensures.taken c.sort_unstable.ensures.permutation)

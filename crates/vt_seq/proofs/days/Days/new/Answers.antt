@@ -1,8 +1,8 @@
 use Rattle.std.proofs.Common.{◌≡◌, ◌+◌, ◌∙◌, ℕ, List, [], ◌∷◌, ◌++◌, false, map, replicate, length, vec_len, ap, arith, rules, Vec, Global}
 use Rattle.std.proofs.lemmas.List.{map-append, length-map, length-append}
 use Rattle.vt_seq.specs.declared.entry.Entry.{Entry}
-use Rattle.vt_seq.specs.Days.{joined}
-use Rattle.vt_seq.proofs.CalendarLemmas.{joined-more, empty-marks}
+use Rattle.vt_seq.specs.Days.{entries_of_days}
+use Rattle.vt_seq.proofs.CalendarLemmas.{days-more, empty-marks}
 use Rattle.vt_seq.proofs.days.Days.new.Goals as goal
 
 pub loop-preserved : goal.loop-preserved
@@ -12,8 +12,8 @@ loop-preserved g c =
     let pushed : c.push.new.self.items ≡ xs ++ v ∷ [] = search rules in
     let longer : length (xs ++ v ∷ []) ≡ length xs + 1 = length-append xs (v ∷ []) in
     record {
-      empty = ap (λ (l : List (Vec (Entry _) Global)). joined (map (λ (v : Vec (Entry _) Global). v.items) l)) pushed ∙ ap joined (map-append (λ (v : Vec (Entry _) Global). v.items) xs (v ∷ []))
-          ∙ ap (λ (l : List (Entry _)). joined (map (λ (v : Vec (Entry _) Global). v.items) xs ++ l ∷ [])) c.new.ensures.items ∙ joined-more (map (λ (v : Vec (Entry _) Global). v.items) xs) c.loop.invariant.empty;
+      empty = ap (λ (l : List (Vec (Entry _) Global)). entries_of_days (map (λ (v : Vec (Entry _) Global). v.items) l)) pushed ∙ ap entries_of_days (map-append (λ (v : Vec (Entry _) Global). v.items) xs (v ∷ []))
+          ∙ ap (λ (l : List (Entry _)). entries_of_days (map (λ (v : Vec (Entry _) Global). v.items) xs ++ l ∷ [])) c.new.ensures.items ∙ days-more (map (λ (v : Vec (Entry _) Global). v.items) xs) c.loop.invariant.empty;
       len = ap length pushed ∙ longer ∙ ap (λ (n : ℕ). n + 1) c.loop.invariant.len;
     }
 

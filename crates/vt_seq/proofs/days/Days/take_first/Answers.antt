@@ -2,7 +2,7 @@ use Rattle.std.proofs.Common.{◌≡◌, ◌<◌, ◌≤◌, ◌∙◌, ℕ, Lis
 use Rattle.std.proofs.lemmas.List.{map-set, length-map}
 use Rattle.std.proofs.lemmas.Option.{slice_get_within, same_Some}
 use Rattle.vt_seq.specs.declared.entry.Entry.{Entry}
-use Rattle.vt_seq.specs.Days.{is_used, joined, IsTaken}
+use Rattle.vt_seq.specs.Days.{is_used, entries_of_days, IsDayTaken}
 use Rattle.vt_seq.proofs.CalendarLemmas.{day-there, marked-there, unmarked-empty, unmarked-none}
 use Rattle.vt_seq.proofs.days.Days.take_first.Goals as goal
 
@@ -12,7 +12,7 @@ invariant_of-self g c =
 
 pub returns-in_default-clause-nothing : goal.returns-in_default-clause-nothing
 returns-in_default-clause-nothing g c =
-    subst (λ (ds : List (List (Entry _))). joined ds ≡ []) c.self.view_is
+    subst (λ (ds : List (List (Entry _))). entries_of_days ds ≡ []) c.self.view_is
     (unmarked-none (map (λ (v : Vec (Entry _) Global). v.items) c.self.inside.days.items) (λ i h. c.in_default.ensures.nowhere i (let z : 0 ≤ i = omega arith in z) (subst (λ (ms : List Bool). slice_get ms i ≡ Some true) (sym c.self.invariant.0) h)))
 
 pub index_mut-requires : goal.index_mut-requires
@@ -46,7 +46,7 @@ returns-clause-taken g c =
     let there : slice_get (map (λ (v : Vec (Entry _) Global). v.items) vs) day ≡ Some list.items = day-there (λ (v : Vec (Entry _) Global). v.items) vs day old within ∙ ap (λ (v : Vec (Entry _) Global). Some v.items) (sym c.index_mut.ensures.value ∙ is) in
     let empty : c.replace-list.new.dest.items ≡ [] = ap (λ (v : Vec (Entry _) Global). v.items) c.replace-list.ensures.after ∙ c.new.ensures.items in
     let set : map (λ (v : Vec (Entry _) Global). v.items) (slice_set vs day c.replace-list.new.dest) ≡ slice_set (map (λ (v : Vec (Entry _) Global). v.items) vs) day [] = map-set (λ (v : Vec (Entry _) Global). v.items) vs day c.replace-list.new.dest ∙ ap (slice_set (map (λ (v : Vec (Entry _) Global). v.items) vs) day) empty in
-    subst (λ (ds : List (List (Entry _))). IsTaken day list.items ds (map (λ (v : Vec (Entry _) Global). v.items) (slice_set vs day c.replace-list.new.dest))) c.self.view_is (record {
+    subst (λ (ds : List (List (Entry _))). IsDayTaken day list.items ds (map (λ (v : Vec (Entry _) Global). v.items) (slice_set vs day c.replace-list.new.dest))) c.self.view_is (record {
       there = there;
       used = ap is_used (same_Some list.items found.0 (sym there ∙ found.1)) ∙ found.2;
       first = λ i l less at. unmarked-empty (map (λ (v : Vec (Entry _) Global). v.items) vs) i l at (λ h. c.in-Some.ensures.first i (let z : 0 ≤ i = omega arith in z) less (subst (λ (ms : List Bool). slice_get ms i ≡ Some true) (sym c.self.invariant.0) h));

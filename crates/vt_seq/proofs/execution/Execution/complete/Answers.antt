@@ -4,7 +4,7 @@ use Rattle.vt_model.specs.Simulation.{Simulation, simulation_of}
 use Rattle.vt_model.specs.Sequential.{after_steps}
 use Rattle.vt_model.specs.declared.rows.Record.{Record}
 use Rattle.vt_model.proofs.LawLemmas.{lawful_of}
-use Rattle.vt_seq.specs.Limits.{IsStepRefusal, IsCounted}
+use Rattle.vt_seq.specs.Limits.{IsRunStepRefusal, IsCounted}
 use Rattle.vt_seq.specs.Given.{AddsStep, AddsSteps}
 use Rattle.vt_seq.specs.Standing.{Standing, IsAt}
 use Rattle.vt_seq.proofs.GivenLemmas.{counted_whole, whole_records}
@@ -108,12 +108,12 @@ returns-in_err-step_reusing-clause-refused g c n is =
     let m : ℕ = r.0 + n in
     let e = c.in_err-step_reusing.ensures in
     let at : IsAt (simulation_of (g.M.Model.handlers before.model) before.config) m before = subst (λ (s : Simulation _ _). IsAt s m before) (sym same) r.1 in
-    if_err (λ fault. (k : ℕ) × IsAt own (k + n) later × AddsSteps own n k c.args.records.now.items c.step_reusing.new.records.items × IsStepRefusal own (k + n) fault)
+    if_err (λ fault. (k : ℕ) × IsAt own (k + n) later × AddsSteps own n k c.args.records.now.items c.step_reusing.new.records.items × IsRunStepRefusal own (k + n) fault)
     c.from_residual.result c.in_err-step_reusing.field-0.0 c.from_residual.ensures.1 (
       r.0,
       subst (λ (v : Standing _ _ _). IsAt own m v) (sym e.kept) r.1,
       subst (λ (l : List Record). AddsSteps own n r.0 c.args.records.now.items l) (sym e.records_kept) r.2,
-      subst (λ (s : Simulation _ _). IsStepRefusal s m c.in_err-step_reusing.field-0.0) same (e.refused m at),
+      subst (λ (s : Simulation _ _). IsRunStepRefusal s m c.in_err-step_reusing.field-0.0) same (e.refused m at),
     )
 
 pub returns-in_err-step_reusing-clause-steps : goal.returns-in_err-step_reusing-clause-steps

@@ -6,7 +6,7 @@ use Rattle.vt_model.proofs.LawLemmas.{lawful_of}
 use Rattle.vt_model.specs.Sequential.{after_steps, seq_records, weight}
 use Rattle.vt_model.specs.Settings.{end_of}
 use Rattle.vt_seq.specs.Given.{records_to, AddsStep}
-use Rattle.vt_seq.specs.Limits.{IsCounted, IsStepRefusal}
+use Rattle.vt_seq.specs.Limits.{IsCounted, IsRunStepRefusal}
 use Rattle.vt_seq.specs.Standing.{Standing, IsAt}
 use Rattle.vt_seq.proofs.ProgressLemmas.{seen-on_way, seen, stands-after, after-stands, if_ok-both, if_err-both, seen_same}
 use Rattle.vt_seq.proofs.StepLemmas.{AreCounted, counted_at, none_pending}
@@ -75,7 +75,7 @@ returns g c = record {
   refused =
       let e = c.self.inside.engine in
       let sim = simulation_of (g.M.Model.handlers e.model.now) e.config in
-      subst (λ (v : Standing _ _ _). (n : ℕ) → IsAt (simulation_of (g.M.Model.handlers v.model) v.config) n v → IfErr c.step.result (IsStepRefusal (simulation_of (g.M.Model.handlers v.model) v.config) n))
+      subst (λ (v : Standing _ _ _). (n : ℕ) → IsAt (simulation_of (g.M.Model.handlers v.model) v.config) n v → IfErr c.step.result (IsRunStepRefusal (simulation_of (g.M.Model.handlers v.model) v.config) n))
       c.self.view_is
       (λ n is. c.step.ensures.refused n (after-stands sim e.model.now e.config n e.pending e.processes.items e.stands is));
 }

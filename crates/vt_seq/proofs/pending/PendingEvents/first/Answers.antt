@@ -2,14 +2,14 @@ use Rattle.std.proofs.Common.{◌<◌, ◌∙◌, ◌++◌, List, length, slice_
 use Rattle.std.specs.BinaryHeap.{heap_items}
 use Rattle.vt_model.specs.declared.sending.Sent.{Sent}
 use Rattle.vt_seq.specs.declared.entry.Entry.{Entry}
-use Rattle.vt_seq.specs.Days.{entries_of}
+use Rattle.vt_seq.specs.Days.{calendar_entries}
 use Rattle.vt_seq.proofs.HeapLemmas.{top-least, top-out, in-near, in-far, least-append, first-event}
 use Rattle.vt_seq.proofs.pending.PendingEvents.first.Goals as goal
 
 pub returns-then-is_far_first : goal.returns-then-is_far_first
 returns-then-is_far_first g c =
     let it = c.self.inside.calendar in
-    let near = entries_of it.present.items it.days in
+    let near = calendar_entries it.present.items it.days in
     let far = heap_items c.self.inside.far in
     let y : Entry _ = c.in-Some.entry.now in
     let some : 0 < length far = search (rules, c.self.inside.far.data.ok.0) in
@@ -20,7 +20,7 @@ returns-then-is_far_first g c =
 pub returns : goal.returns
 returns g c =
     let it = c.self.inside.calendar in
-    let near = entries_of it.present.items it.days in
+    let near = calendar_entries it.present.items it.days in
     let far = heap_items c.self.inside.far in
     let x : Entry _ = c.in-Some-first.entry.now in
     let among = c.in-Some-first.ensures.among in

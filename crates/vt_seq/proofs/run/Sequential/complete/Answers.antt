@@ -6,8 +6,8 @@ use Rattle.vt_model.specs.Simulation.{Simulation, simulation_of}
 use Rattle.vt_model.specs.Sequential.{after_steps, seq_records}
 use Rattle.vt_model.specs.Settings.{end_of}
 use Rattle.vt_model.proofs.LawLemmas.{lawful_of}
-use Rattle.vt_seq.specs.Limits.{IsCountedWhole, IsStepRefusal}
-use Rattle.vt_seq.specs.Progress.{Progress, IsAfter, IsReached, with_records}
+use Rattle.vt_seq.specs.Limits.{IsCountedWhole, IsRunStepRefusal}
+use Rattle.vt_seq.specs.Progress.{Progress, IsAfter, IsAfterSomeSteps, with_records}
 use Rattle.vt_seq.proofs.GivenLemmas.{whole_records}
 use Rattle.vt_seq.proofs.ProgressLemmas.{counted_any, kept_through, same-run}
 use Rattle.vt_seq.proofs.StepLemmas.{none_pending}
@@ -56,7 +56,7 @@ returns-clause-refused g c =
     let f = c.complete.new.self in
     let later = with_records f c.complete.new.records.items in
     subst (λ (v : Progress _ _ _). (n : ℕ) → IsAfter (simulation_of (g.M.Model.handlers v.model) v.config) n v
-    → IfErr c.complete.result (λ fault. (k : ℕ) × IsAfter (simulation_of (g.M.Model.handlers v.model) v.config) (k + n) later × IsStepRefusal (simulation_of (g.M.Model.handlers v.model) v.config) (k + n) fault))
+    → IfErr c.complete.result (λ fault. (k : ℕ) × IsAfter (simulation_of (g.M.Model.handlers v.model) v.config) (k + n) later × IsRunStepRefusal (simulation_of (g.M.Model.handlers v.model) v.config) (k + n) fault))
     c.self.view_is (λ n is. IfErr-weaker c.complete.result _ _
     (λ fault h. (h.0, kept_through sim n h.0 f records c.complete.new.records.items is.records h.1 h.2, h.3))
     (c.complete.ensures.refused n is.at))
@@ -74,4 +74,4 @@ invariant_of-self g c =
     (r.0 + x.0, subst (λ (s : Simulation _ _). IsAfter s (r.0 + x.0) later) same (kept_through sim x.0 r.0 f records c.complete.new.records.items x.1.records r.1 r.2)))
 
 pub returns-clause-reached : goal.returns-clause-reached
-returns-clause-reached g c = subst (λ (v : Progress _ _ _). IsReached (g.M.Model.handlers v.model) v) c.self.view_is c.self.invariant
+returns-clause-reached g c = subst (λ (v : Progress _ _ _). IsAfterSomeSteps (g.M.Model.handlers v.model) v) c.self.view_is c.self.invariant

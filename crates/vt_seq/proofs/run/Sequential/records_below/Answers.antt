@@ -5,7 +5,7 @@ use Rattle.vt_model.specs.Rows.{record_time}
 use Rattle.vt_model.specs.Simulation.{simulation_of}
 use Rattle.vt_model.specs.Sequential.{after_steps, rows_after, rows_before, records_of}
 use Rattle.vt_model.proofs.LawLemmas.{lawful_of}
-use Rattle.vt_seq.specs.Progress.{Progress, IsAfter, IsReached}
+use Rattle.vt_seq.specs.Progress.{Progress, IsAfter, IsAfterSomeSteps}
 use Rattle.vt_seq.proofs.GivenLemmas.{records_before}
 use Rattle.vt_seq.proofs.run.Sequential.records_below.Goals as goal
 
@@ -22,4 +22,4 @@ returns-clause-rows g c =
     c.copy_below.ensures.before)
 
 pub returns-clause-reached : goal.returns-clause-reached
-returns-clause-reached g c = subst (λ (v : Progress _ _ _). IsReached (g.M.Model.handlers v.model) v) c.self.view_is c.self.invariant
+returns-clause-reached g c = subst (λ (v : Progress _ _ _). IsAfterSomeSteps (g.M.Model.handlers v.model) v) c.self.view_is c.self.invariant

@@ -1,8 +1,8 @@
 use Rattle.std.proofs.Common.{ℕ, suc, IfOk, IfErr, sym, subst}
 use Rattle.std.proofs.Math.Logic.{∥∥₁_map}
 use Rattle.vt_model.specs.Simulation.{Simulation, simulation_of}
-use Rattle.vt_seq.specs.Limits.{IsCounted, IsStepRefusal}
-use Rattle.vt_seq.specs.Progress.{Progress, IsAfter, IsReached, with_records}
+use Rattle.vt_seq.specs.Limits.{IsCounted, IsRunStepRefusal}
+use Rattle.vt_seq.specs.Progress.{Progress, IsAfter, IsAfterSomeSteps, with_records}
 use Rattle.vt_seq.proofs.ProgressLemmas.{kept_on, if_ok-both, same-run}
 use Rattle.vt_seq.proofs.StepLemmas.{either_way}
 use Rattle.vt_seq.proofs.run.Sequential.step.Goals as goal
@@ -20,7 +20,7 @@ returns-clause-steps g c =
 
 pub returns-clause-refused : goal.returns-clause-refused
 returns-clause-refused g c =
-    subst (λ (v : Progress _ _ _). (n : ℕ) → IsAfter (simulation_of (g.M.Model.handlers v.model) v.config) n v → IfErr c.step.result (IsStepRefusal (simulation_of (g.M.Model.handlers v.model) v.config) n))
+    subst (λ (v : Progress _ _ _). (n : ℕ) → IsAfter (simulation_of (g.M.Model.handlers v.model) v.config) n v → IfErr c.step.result (IsRunStepRefusal (simulation_of (g.M.Model.handlers v.model) v.config) n))
     c.self.view_is (λ n is. c.step.ensures.refused n is.at)
 
 pub returns-clause-counted : goal.returns-clause-counted
@@ -44,4 +44,4 @@ invariant_of-self g c =
     (λ kept same_records more. (x.0, subst (λ (s : Simulation _ _). IsAfter s x.0 later) same (subst (λ (v : Progress _ _ _). IsAfter sim x.0 v) (λ j. with_records (sym kept j) (sym same_records j)) x.1))))
 
 pub returns-clause-reached : goal.returns-clause-reached
-returns-clause-reached g c = subst (λ (v : Progress _ _ _). IsReached (g.M.Model.handlers v.model) v) c.self.view_is c.self.invariant
+returns-clause-reached g c = subst (λ (v : Progress _ _ _). IsAfterSomeSteps (g.M.Model.handlers v.model) v) c.self.view_is c.self.invariant
