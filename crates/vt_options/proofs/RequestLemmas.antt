@@ -11,7 +11,7 @@ use Rattle.vt_key.specs.declared.fault.Fault.TheVariants.{Memory, NotLawful, Bus
 use Rattle.vt_key.specs.Faults.{fault_number, option_named}
 use Rattle.vt_options.specs.Line.{given_by, subcommand_by}
 use Rattle.vt_options.specs.Table.{Given}
-use Rattle.vt_options.specs.Requests.{AreBy, HasBadOptionOf, IsRefusedAfter, IsRefusedByOf, Line}
+use Rattle.vt_options.specs.Requests.{AreBy, HasBadOptionOf, IsParserRefusal, IsRefusedByOf, Line}
 
 -- the name that a parse met is that of its rows
 pub name_of_rows : (m : ArgMatches) → option_map (λ s. s.0) (subcommand_rows_of m) ≡ subcommand_name_of m
@@ -54,13 +54,13 @@ module _ (line : Line) (words : List Text) (found : Given) (e : (name : Text) �
       refused_by_name line words fault (line.bad_of_replay found) (λ name b. inr (record { are = replay; bad = ap line.bad_of_replay (λ i name. sym (e name) i) ∙ b })) n f
 
 -- what the parser's error refuses, the program refuses
-pub refused_after : (line : Line) (words : List Text) (fault : Fault) → IsRefusedAfter line.app words fault → IsRefusedByOf line words fault
-refused_after line words Memory h = tt
-refused_after line words NotLawful h = h
-refused_after line words Busy h = h
-refused_after line words Closed h = h
-refused_after line words Exhausted h = h
-refused_after line words TurnsSpent h = h
-refused_after line words (BadOption name) h = inl (h.0, inl h.1)
-refused_after line words (BadStep k) h = h
-refused_after line words Output h = h
+pub refused_by_parser : (line : Line) (words : List Text) (fault : Fault) → IsParserRefusal line.app words fault → IsRefusedByOf line words fault
+refused_by_parser line words Memory h = tt
+refused_by_parser line words NotLawful h = h
+refused_by_parser line words Busy h = h
+refused_by_parser line words Closed h = h
+refused_by_parser line words Exhausted h = h
+refused_by_parser line words TurnsSpent h = h
+refused_by_parser line words (BadOption name) h = inl (h.0, inl h.1)
+refused_by_parser line words (BadStep k) h = h
+refused_by_parser line words Output h = h

@@ -57,7 +57,7 @@ IsRefusedByOf line words (BadOption name) = IsRefusedAsOf line words name.now
 IsRefusedByOf line words _ = ⊥
 
 -- why the parser's error refuses the words: for want of memory, or since they can't be read
-abbrev pub IsRefusedAfter : App → List Text → Fault → Type 0
-IsRefusedAfter app words Memory = ⊤
-IsRefusedAfter app words (BadOption name) = (name.now ≡ codes "command-line") × IsUnreadableBy app words
-IsRefusedAfter app words _ = ⊥
+abbrev pub IsParserRefusal : App → List Text → Fault → Type 0
+IsParserRefusal app words Memory = ⊤
+IsParserRefusal app words (BadOption name) = (name.now ≡ codes "command-line") × IsUnreadableBy app words
+IsParserRefusal app words _ = ⊥

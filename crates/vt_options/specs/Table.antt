@@ -2,7 +2,7 @@
 use Rattle.std.specs.Prelude.{ℕ, ◌==◌, ◌-◌, ◌^◌, List, [], ◌∷◌, Option, Some, None, if◌then◌else◌, codes, option_and_then}
 use Rattle.vt_key.specs.declared.limits.TheConstants.{MAX_WORKERS, MAX_PROCESSES, MAX_END, MAX_COUNT}
 use Rattle.vt_model.specs.Settings.{is_between}
-use Rattle.vt_text.specs.Numbers.{number_of}
+use Rattle.vt_text.specs.Numbers.{number_said}
 use Rattle.vt_text.specs.declared.version.Version.{Version}
 use Rattle.vt_text.specs.declared.version.Version.TheVariants.{One, Two}
 use Rattle.vt_options.specs.declared.choices.Synch.{Synch}
@@ -49,7 +49,7 @@ if_between least most n = if is_between least most n then Some n else None
 -- the number that a text gives: the default where there is none
 abbrev pub number_in : ℕ → ℕ → ℕ → Option (List ℕ) → Option ℕ
 number_in least most default None = Some default
-number_in least most default (Some text) = option_and_then (if_between least most) (number_of text)
+number_in least most default (Some text) = option_and_then (if_between least most) (number_said text)
 
 -- the value of an option, where it has one
 abbrev pub value_in : Given → NumberOption → Option ℕ
@@ -62,7 +62,7 @@ synch_numbered n = if n == 1 then Some Sequential else if n == 3 then Some Optim
 -- the kind of run that a text names: 1 if there is no text
 abbrev pub synch_in : Option (List ℕ) → Option Synch
 synch_in None = Some Sequential
-synch_in (Some text) = option_and_then synch_numbered (number_of text)
+synch_in (Some text) = option_and_then synch_numbered (number_said text)
 
 -- the version of the text of records that a number names
 abbrev pub version_numbered : ℕ → Option Version
@@ -71,7 +71,7 @@ version_numbered n = if n == 1 then Some One else if n == 2 then Some Two else N
 -- the version that a text names: 2 if there is no text
 abbrev pub version_in : Option (List ℕ) → Option Version
 version_in None = Some Two
-version_in (Some text) = option_and_then version_numbered (number_of text)
+version_in (Some text) = option_and_then version_numbered (number_said text)
 
 -- the name, where there is no value
 abbrev pub bad : {A : Type 0} → List ℕ → Option A → Option (List ℕ)

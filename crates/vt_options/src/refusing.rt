@@ -3,7 +3,7 @@
 ghost use Rattle.std.specs.Prelude.{◌≡◌, ◌⊎◌, List, IfOk, IfErr};
 ghost use Rattle.clap.specs.Values.{kind_of};
 ghost use Rattle.clap.specs.Words.{App, HasKind, Text, fault_of};
-ghost use Rattle.vt_options.specs.Requests.{AskHelpOf, IsRefusedAfter};
+ghost use Rattle.vt_options.specs.Requests.{AskHelpOf, IsParserRefusal};
 
 use clap::Error;
 use clap::error::ErrorKind;
@@ -16,7 +16,7 @@ use vt_key::Fault;
 /// the text of the help was refused memory.
 pub(crate) fn help_of(alloc: Global, error: Error) -> Result<String, Fault>
     ensures ok { (app : App) (words : List Text) → HasKind (fault_of app words) error → IfOk result (λ _. AskHelpOf app words) }
-    ensures err { (app : App) (words : List Text) → HasKind (fault_of app words) error → IfErr result (IsRefusedAfter app words) }
+    ensures err { (app : App) (words : List Text) → HasKind (fault_of app words) error → IfErr result (IsParserRefusal app words) }
     ensures memory { IfErr result (λ fault. fault ≡ Fault.Memory → (kind_of error ≡ ErrorKind.OutOfMemory) ⊎ (kind_of error ≡ ErrorKind.DisplayHelp)) }
 {
     match error.kind() {

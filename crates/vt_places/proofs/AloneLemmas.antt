@@ -29,7 +29,7 @@ use Rattle.vt_steps.proofs.steps.LocalLeads.{local-does}
 use Rattle.vt_kernel.specs.Held.{HeldWorker}
 use Rattle.vt_places.specs.declared.view.View.{View}
 use Rattle.vt_places.specs.Slots.{cell_at}
-use Rattle.vt_places.specs.Calls.{Known, Closes, Reaches, Visited, IsRefusedBy, IsCutRefusal, IsReportRefusal, IsCommitRefusal, IsCloseRefusal, IsRefusedAlone}
+use Rattle.vt_places.specs.Calls.{Known, Closes, Reaches, Visited, IsRefusedByShown, IsCutRefusal, IsReportRefusal, IsCommitRefusal, IsCloseRefusal, IsRefusedAlone}
 use Rattle.vt_places.proofs.OneList.{steps-own, steps-answered}
 use Rattle.vt_steps.proofs.steps.MemoryLemmas.{run-append}
 use Rattle.vt_steps.proofs.time.Flags.{may-tells}
@@ -121,7 +121,7 @@ module _ {S P : Type 0} (sim : Simulation S P) (v : View P) where
   own_world steps = run sim (reached sim 0 (map (λ m. m.step) v.mine)) steps
 
   -- a refusal by a world that was shown, and local steps of the place
-  module _ (step : Step) (fault : Fault) (one : sim.workers ≡ 1) (b : IsRefusedBy sim v step fault) (steps : List Step) (part : Part P) (led : local_steps sim v.worker steps v.part ≡ Some part)
+  module _ (step : Step) (fault : Fault) (one : sim.workers ≡ 1) (b : IsRefusedByShown sim v step fault) (steps : List Step) (part : Part P) (led : local_steps sim v.worker steps v.part ≡ Some part)
       (whose : IsAny (worker_of sim step) v.worker) where
     -- the world that refused it
     abbrev refusing : World P
@@ -302,7 +302,7 @@ module _ {S P K : Type 0} (handlers : Handlers S P K) (config : Config) (v w : V
       subst (λ (u : ℕ). MatchResult result (λ _. (seen : Time) × Visited handlers config v before (Commit u) Done left seen w) (λ _. Kept) → IsRefusedAlone sim v r.steps (Commit u) result) own
       (λ at. by-answer sim v result r.steps (Commit v.worker) (λ _. (seen : Time) × Visited handlers config v before (Commit v.worker) Done left seen w) Kept (λ fault. IsCommitRefusal sim v fault) at why (λ one x d. went (Commit v.worker) Done d.0 refl one d.1) stops guards) done
     where
-      by_closed : (fault f : Fault) → sim.workers ≡ 1 → (b : IsRefusedBy sim v (Commit v.worker) fault) → (next sim (own_world sim v r.steps) (Commit v.worker)).answer ≡ Err f → (c : Bool) → (shown sim b.log).book.is_closed ≡ c → fault ≡ f
+      by_closed : (fault f : Fault) → sim.workers ≡ 1 → (b : IsRefusedByShown sim v (Commit v.worker) fault) → (next sim (own_world sim v r.steps) (Commit v.worker)).answer ≡ Err f → (c : Bool) → (shown sim b.log).book.is_closed ≡ c → fault ≡ f
       by_closed fault f one b no_step true is =
           let book = (shown sim b.log).book in
           same-refusal sim v (Commit v.worker) fault one b r.steps r.part r.led refl f no_step book_cell (in_book book) refl refl
@@ -317,7 +317,7 @@ module _ {S P K : Type 0} (handlers : Handlers S P K) (config : Config) (v w : V
       stops one fault f (inl busy) no_step = absurd (let more = busy.1 in omega arith)
       stops one fault f (inr x) no_step = by_closed fault f one x.0 no_step (shown sim x.0.log).book.is_closed refl
 
-      by_book : (fault : Fault) → sim.workers ≡ 1 → (b : IsRefusedBy sim v (Commit v.worker) fault) → OfGuard fault → (c : Bool) → (shown sim b.log).book.is_closed ≡ c → (next sim (own_world sim v r.steps) (Commit v.worker)).answer ≡ Err fault
+      by_book : (fault : Fault) → sim.workers ≡ 1 → (b : IsRefusedByShown sim v (Commit v.worker) fault) → OfGuard fault → (c : Bool) → (shown sim b.log).book.is_closed ≡ c → (next sim (own_world sim v r.steps) (Commit v.worker)).answer ≡ Err fault
       by_book fault one b guard true is =
           let book = (shown sim b.log).book in
           guarded-here sim v (Commit v.worker) fault one b r.steps r.part r.led refl book_cell (in_book book) refl refl

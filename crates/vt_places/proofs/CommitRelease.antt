@@ -19,7 +19,7 @@ use Rattle.vt_cells.specs.Calls.{CommitsTo}
 use Rattle.vt_cells.proofs.BookSteps.{commit-acts}
 use Rattle.vt_places.specs.declared.view.View.{View}
 use Rattle.vt_places.specs.Slots.{cell_count, word_at, home_word, cell_at}
-use Rattle.vt_places.specs.Kept.{Sat, Kept}
+use Rattle.vt_places.specs.Kept.{Sat, IsTableRight}
 use Rattle.vt_places.specs.Calls.{Reaches, Visited, Holding, ShowsFloor}
 use Rattle.vt_places.specs.Commits.{Commits}
 use Rattle.vt_places.proofs.CallLemmas.{WithHand, done-held}
@@ -31,7 +31,7 @@ module _ {S P K : Type 0} (handlers : Handlers S P K) (config : Config) where
   -- after local steps and a commit
   pub leaves-committed : IsLawful (simulation_of handlers config) → (slots id k : ℕ) (m : Sat P) (worker : ℕ) (seen : Time) (found now : Cell P) (lent : HeldWorker S P K) → k < cell_count config.workers
       → worker ≡ m.0.worker → cell_at config.workers k ≡ book_cell → Holding config m k found now → CommitsTo handlers config worker lent found now → ShowsFloor (end_of config) seen now → Reaches handlers config m.0 lent
-      → Allows (Kept (simulation_of handlers config) config) slots id m (word_at k) (λ _. home_word) (λ _. (λ (n : ℕ) (after : Sat P). (after.1 ≡ []) × Commits handlers config m.0 worker lent seen after.0) home_word)
+      → Allows (IsTableRight (simulation_of handlers config) config) slots id m (word_at k) (λ _. home_word) (λ _. (λ (n : ℕ) (after : Sat P). (after.1 ≡ []) × Commits handlers config m.0 worker lent seen after.0) home_word)
   leaves-committed lawful slots id k m worker seen found now lent near whose at h does sees way =
       let sim = simulation_of handlers config in
       let left = part_after_commit way.part in

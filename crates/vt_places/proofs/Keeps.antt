@@ -24,7 +24,7 @@ use Rattle.vt_places.specs.declared.slot.Slot.{Slot}
 use Rattle.vt_places.specs.declared.view.View.{View}
 use Rattle.vt_places.specs.Hands.{empty_hand, holding}
 use Rattle.vt_places.specs.Slots.{cell_count, word_at, empty_word, claimed_word, cell_at, held_in, IsSlotOf}
-use Rattle.vt_places.specs.Kept.{Standing, Sat, HasGrown, IsClaimed, Sits, IsAtHome, IsHeld, Kept, Rests}
+use Rattle.vt_places.specs.Kept.{TableState, Sat, HasGrown, IsClaimed, Sits, IsAtHome, IsHeld, IsTableRight, Rests}
 use Rattle.vt_places.specs.Calls.{IsShown, Known, Took, ShowsFloor}
 use Rattle.vt_places.proofs.Growth.{grown-not, grown-more, own-kept}
 use Rattle.vt_places.proofs.Cells.{not-empty, same-cell_held, same-found, inbox-name, names-apart, words-apart, holds-book}
@@ -36,11 +36,11 @@ Looked m aim n after = (n ≡ empty_word → aim after) × (n ≢ empty_word →
 
 module _ {S P : Type 0} (sim : Simulation S P) (config : Config) where
   -- one word, one slot and one view are changed
-  abbrev changed : Standing P → ℕ → ℕ → ℕ → Maybe (Slot P) → View P → Standing P
+  abbrev changed : TableState P → ℕ → ℕ → ℕ → Maybe (Slot P) → View P → TableState P
   changed s id k x h w = record { words = set s.words (word_at k) x; homes = set s.homes k h; views = set s.views id w }
 
   -- the rule after it, with another list of steps
-  rebuilt : (s : Standing P) (r : Kept sim config s) (id k x : ℕ) (h : Maybe (Slot P)) (v w : View P) (log : List Marked)
+  rebuilt : (s : TableState P) (r : IsTableRight sim config s) (id k x : ℕ) (h : Maybe (Slot P)) (v w : View P) (log : List Marked)
       → get_elem? s.views id ≡ some v → k < cell_count sim.workers → w.worker ≡ v.worker → AllByRecursion (λ m. m.worker < r.made) log → AllByRecursion (IsMarkedRight sim) log
       → ((q : ℕ) → q ≢ v.worker → (slice_get (shown sim log).parts q ≡ slice_get (shown sim r.log).parts q) × (own_steps_of sim q log ≡ own_steps_of sim q r.log) × ((former : List Marked) → HasGrown q former r.log → HasGrown q former log))
       → ((j : ℕ) → j < cell_count sim.workers → j ≢ k → content (shown sim log) (cell_at sim.workers j) ≡ content (shown sim r.log) (cell_at sim.workers j))
@@ -52,13 +52,13 @@ module _ {S P : Type 0} (sim : Simulation S P) (config : Config) where
       → ((j : ℕ) (c : Cell P) → w.hand ≡ holding j c → j ≡ k)
       → ((j : ℕ) (c : Cell P) → v.hand ≡ holding j c → j ≡ k)
       → ((j : ℕ) (u : View P) (c : Cell P) → j ≢ id → get_elem? s.views j ≡ some u → u.hand ≡ holding k c → ⊥)
-      → Kept sim config (changed s id k x h w)
+      → IsTableRight sim config (changed s id k x h w)
   rebuilt s r id k x h v w log at near same_worker marks right others cells more sits at_home held empty mine_w mine_v alone =
       let wide = r.wide in
       let deep = r.deep in
       let near_word : word_at k < length s.words = omega arith in
       let near_home : k < length s.homes = omega arith in
-      let s' : Standing P = changed s id k x h w in
+      let s' : TableState P = changed s id k x h w in
       record {
         log = log;
         made = r.made;
@@ -163,13 +163,13 @@ module _ {S P : Type 0} (sim : Simulation S P) (config : Config) where
   all_own made p (m ∷ ms) one l a = let z = a.0 in (omega arith, all_own made p ms one l a.1)
 
   -- a step that writes what is there, and after which the seat has the view that it had, changes nothing
-  unstepped : (s : Standing P) → Kept sim config s → (id i x : ℕ) (v : View P) → get_elem? s.views id ≡ some v → get_or s.words i 0 ≡ x → Kept sim config record { words = set s.words i x; homes = s.homes; views = set s.views id v }
+  unstepped : (s : TableState P) → IsTableRight sim config s → (id i x : ℕ) (v : View P) → get_elem? s.views id ≡ some v → get_or s.words i 0 ≡ x → IsTableRight sim config record { words = set s.words i x; homes = s.homes; views = set s.views id v }
   unstepped s r id i x v at is =
       let words : set s.words i x ≡ s.words = ap (set s.words i) (sym is) ∙ set-get_or s.words i 0 in
-      subst (λ (y : List ℕ × List (View P)). Kept sim config record { words = y.0; homes = s.homes; views = y.1 }) (λ j. (sym words j, sym (set_again s.views id v at) j)) r
+      subst (λ (y : List ℕ × List (View P)). IsTableRight sim config record { words = y.0; homes = s.homes; views = y.1 }) (λ j. (sym words j, sym (set_again s.views id v at) j)) r
 
   -- what the rule says of a seat and of what a cell holds
-  abbrev known_there : (s : Standing P) (r : Kept sim config s) (id k : ℕ) (v : View P) (cell : Cell P) → get_elem? s.views id ≡ some v → content (shown sim r.log) (cell_at sim.workers k) ≡ Some cell → Known sim v k cell
+  abbrev known_there : (s : TableState P) (r : IsTableRight sim config s) (id k : ℕ) (v : View P) (cell : Cell P) → get_elem? s.views id ≡ some v → content (shown sim r.log) (cell_at sim.workers k) ≡ Some cell → Known sim v k cell
   known_there s r id k v cell at shows =
       let t = r.each id v at in
       record {
@@ -188,12 +188,12 @@ module _ {S P : Type 0} (sim : Simulation S P) (config : Config) where
   abbrev pub Claimed : Sat P → ℕ → ℕ → Sat P → Type 0
   Claimed m k n after = (n ≢ claimed_word → Took sim config m k after) × (n ≡ claimed_word → (after ≡ m) × (1 < sim.workers))
 
-  abbrev Steps : Standing P → ℕ → ℕ → Sat P → (ℕ → Sat P → Type 0) → ℕ → Type 0
-  Steps s id i m then x = (w : View P) × (a : Act (Slot P)) × Valid s.homes m.1 a × Kept sim config (stepped s i x id m.1 w a) × then (get_or s.words i 0) (w, carried_after m.1 a)
+  abbrev Steps : TableState P → ℕ → ℕ → Sat P → (ℕ → Sat P → Type 0) → ℕ → Type 0
+  Steps s id i m then x = (w : View P) × (a : Act (Slot P)) × Valid s.homes m.1 a × IsTableRight sim config (stepped s i x id m.1 w a) × then (get_or s.words i 0) (w, carried_after m.1 a)
 
   -- a swap claims the cell, or finds it claimed by another seat and changes nothing
   pub claims : (slots id k : ℕ) (m : Sat P) → k < cell_count sim.workers → Rests m
-      → Allows (Kept sim config) slots id m (word_at k) (λ _. claimed_word) (Claimed m k)
+      → Allows (IsTableRight sim config) slots id m (word_at k) (λ _. claimed_word) (Claimed m k)
   claims slots id k m near rests s r deep at small = dite (ℕ_discrete (get_or s.words (word_at k) 0) claimed_word) miss hit
     where
       hit : get_or s.words (word_at k) 0 ≢ claimed_word → Steps s id (word_at k) m (Claimed m k) claimed_word
@@ -270,7 +270,7 @@ module _ {S P : Type 0} (sim : Simulation S P) (config : Config) where
   Read m after = (after ≡ m) × IsShown sim m.0
 
   -- a load of any word tells the place a list of steps after which the shown world has its part
-  pub reads : (slots id i : ℕ) (m : Sat P) → Allows (Kept sim config) slots id m i (λ n. n) (λ _ after. Read m after)
+  pub reads : (slots id i : ℕ) (m : Sat P) → Allows (IsTableRight sim config) slots id m i (λ n. n) (λ _ after. Read m after)
   reads slots id i m s r deep at small = (
     m.0,
     keeps,
@@ -304,14 +304,14 @@ module _ {S P : Type 0} (sim : Simulation S P) (config : Config) where
   shown-floor world name (Rattle.vt_steps.specs.Cells.in_book book) t holds shows = subst (λ b. TimeAtMost t (book_floor sim.end b)) (sym (holds-book world name book holds)) (omega (arith, shows))
 
   -- one worker's steps at a cell that nobody else has claimed and that is at home after them stand behind all others
-  follows : IsLawful sim → (s : Standing P) (r : Kept sim config s) (id k x : ℕ) (v : View P) (found : Cell P) (slot : Slot P) (steps : List Step) (new : Part P) (made : List Made) (left : List Marked) (seen : Time)
+  follows : IsLawful sim → (s : TableState P) (r : IsTableRight sim config s) (id k x : ℕ) (v : View P) (found : Cell P) (slot : Slot P) (steps : List Step) (new : Part P) (made : List Made) (left : List Marked) (seen : Time)
       → get_elem? s.views id ≡ some v → k < cell_count sim.workers → content (shown sim r.log) (cell_at sim.workers k) ≡ Some found → IsSlotOf config k slot
       → Leads sim v.worker (cell_at sim.workers k) v.part found steps new (held_in slot) made → HasGrown v.worker left (r.log ++ marked v.worker steps)
       → TimeAtMost seen v.seen ⊎ ShowsFloor sim.end seen (held_in slot)
       → x ≢ claimed_word → (x ≡ empty_word → k < sim.workers → held_in slot ≡ in_inbox [])
       → ((j : ℕ) (c : Cell P) → v.hand ≡ holding j c → j ≡ k)
       → ((j : ℕ) (u : View P) (c : Cell P) → j ≢ id → get_elem? s.views j ≡ some u → u.hand ≡ holding k c → ⊥)
-      → Kept sim config (changed s id k x (some slot) (record v { part = new; mine = v.mine ++ made; log = left; seen = seen; hand = empty_hand }))
+      → IsTableRight sim config (changed s id k x (some slot) (record v { part = new; mine = v.mine ++ made; log = left; seen = seen; hand = empty_hand }))
   follows lawful s r id k x v found slot steps new made left seen at near shows right goes grown low home empty held alone =
       rebuilt s r id k x (some slot) v (record v { part = new; mine = v.mine ++ made; log = left; seen = seen; hand = empty_hand }) log at near refl marks rights
       (λ q ne. longer-others v.worker q r.log steps (cell_at sim.workers k) v.part new found (held_in slot) made ne did)
@@ -361,7 +361,7 @@ module _ {S P : Type 0} (sim : Simulation S P) (config : Config) where
       → ((log : List Marked) → HasGrown m.0.worker m.0.log log → HasGrown m.0.worker (left log) (log ++ marked m.0.worker steps))
       → TimeAtMost seen m.0.seen ⊎ ShowsFloor sim.end seen (held_in slot)
       → ((n : ℕ) (known : Known sim m.0 k found) → aim n (record m.0 { part = new; mine = m.0.mine ++ made; log = left known.log; seen = seen; hand = empty_hand }, []))
-      → Allows (Kept sim config) slots id m (word_at k) (λ _. x) (λ _. aim x)
+      → Allows (IsTableRight sim config) slots id m (word_at k) (λ _. x) (λ _. aim x)
   releases lawful slots id k x m found slot steps new made left seen aim near home empty carried held right goes grown low want s r deep at small =
       let shows = ((r.each id m.0 at).holds k found held).shows in
       let w : View P = record m.0 { part = new; mine = m.0.mine ++ made; log = left r.log; seen = seen; hand = empty_hand } in
@@ -369,7 +369,7 @@ module _ {S P : Type 0} (sim : Simulation S P) (config : Config) where
         w,
         gives,
         tt,
-        subst (λ (hs : List (Maybe (Slot P))). Kept sim config record { words = set s.words (word_at k) x; homes = hs; views = set s.views id w }) (sym back)
+        subst (λ (hs : List (Maybe (Slot P))). IsTableRight sim config record { words = set s.words (word_at k) x; homes = hs; views = set s.views id w }) (sym back)
             (follows lawful s r id k x m.0 found slot steps new made (left r.log) seen at near shows right goes (grown r.log (r.each id m.0 at).grows) low home empty
             (λ j d e. same-cell_held k j found d (sym held ∙ e)) (λ j u d ne there hd. ne (r.alone j id u m.0 k d found there at hd held))),
         subst (λ (l : List (ℕ × Slot P)). aim x (w, l)) (sym (ap rest carried)) (want x (known_there s r id k m.0 found at shows)),
@@ -379,7 +379,7 @@ module _ {S P : Type 0} (sim : Simulation S P) (config : Config) where
   pub looks : IsLawful sim → (slots id k : ℕ) (m : Sat P) (steps : List Step) (new : Part P) (made : List Made) (aim : Sat P → Type 0) → k < sim.workers → Rests m
       → Leads sim m.0.worker (cell_at sim.workers k) m.0.part (in_inbox []) steps new (in_inbox []) made
       → ((known : Known sim m.0 k (in_inbox [])) → aim (record m.0 { part = new; mine = m.0.mine ++ made; log = known.log ++ marked m.0.worker steps; hand = empty_hand }, []))
-      → Allows (Kept sim config) slots id m (word_at k) (λ n. n) (Looked m aim)
+      → Allows (IsTableRight sim config) slots id m (word_at k) (λ n. n) (Looked m aim)
   looks lawful slots id k m steps new made aim less rests goes want s r deep at small = dite (ℕ_discrete (get_or s.words (word_at k) 0) empty_word) hit miss
     where
       near : k < cell_count sim.workers
@@ -396,7 +396,7 @@ module _ {S P : Type 0} (sim : Simulation S P) (config : Config) where
             w,
             keeps,
             tt,
-            subst (λ (hs : List (Maybe (Slot P))). Kept sim config record { words = set s.words (word_at k) (get_or s.words (word_at k) 0); homes = hs; views = set s.views id w }) (set_again s.homes k (some f.slot) f.home)
+            subst (λ (hs : List (Maybe (Slot P))). IsTableRight sim config record { words = set s.words (word_at k) (get_or s.words (word_at k) 0); homes = hs; views = set s.views id w }) (set_again s.homes k (some f.slot) f.home)
                 (follows lawful s r id k (get_or s.words (word_at k) 0) m.0 (in_inbox []) f.slot steps new made (r.log ++ marked m.0.worker steps) m.0.seen at near shows f.right
                 (subst (λ (c : Cell P). Leads sim m.0.worker (cell_at sim.workers k) m.0.part (in_inbox []) steps new c made) (sym is) goes)
                 (grown-not m.0.worker (r.log ++ marked m.0.worker steps)) (inl (le_refl m.0.seen)) free (λ _ _. is) (λ j d e. absurd (not-empty m.0.hand j d rests.0 e))

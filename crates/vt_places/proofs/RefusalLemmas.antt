@@ -28,7 +28,7 @@ use Rattle.vt_steps.proofs.book.Records.{records-right}
 use Rattle.vt_steps.proofs.marks.OwnCuts.{refused-cut-known}
 use Rattle.vt_kernel.specs.Refusals.{IsStepRefusal}
 use Rattle.vt_places.specs.declared.view.View.{View}
-use Rattle.vt_places.specs.Calls.{Known, IsRefusedBy, IsCutRefusal, IsReportRefusal, IsCommitRefusal, IsCloseRefusal, IsFloorLeft, AreRecordsShown}
+use Rattle.vt_places.specs.Calls.{Known, IsRefusedByShown, IsCutRefusal, IsReportRefusal, IsCommitRefusal, IsCloseRefusal, IsFloorLeft, AreRecordsShown}
 use Rattle.vt_steps.proofs.steps.MemoryLemmas.{run-append}
 use Rattle.vt_steps.proofs.steps.CellLemmas.{map-none}
 
@@ -61,18 +61,18 @@ module _ {S P : Type 0} {sim : Simulation S P} {v : View P} {k : ℕ} {cell : Ce
   pub then-book : then_there.book ≡ there.book
   then-book = let h : ◌≡◌ {A = Option (Cell P)} (Some (in_book then_there.book)) (Some (in_book there.book)) = book-does.cell in let e : then_there.book ≡ there.book = cc in e
 
-  pub refused-by : (step : Step) (fault : Fault) → IsStepRefusal sim step then_there fault → IsRefusedBy sim v step fault
+  pub refused-by : (step : Step) (fault : Fault) → IsStepRefusal sim step then_there fault → IsRefusedByShown sim v step fault
   refused-by step fault is = record { log = known.log; right = known.right; part = known.part; mine = known.mine; grows = known.grows; own = known.own; steps = steps; before = before; led = led; refused = is }
 
   -- a step that is refused on the place's part and on what a cell held
   module _ (step : Step) (whose : IsAny (worker_of sim step) v.worker) {fault : Fault} where
-    refused-at : (name : CellName) (held : Cell P) → cell_of sim step ≡ Some name → content then_there name ≡ Some held → IsCellRefusal sim step before held fault → IsRefusedBy sim v step fault
+    refused-at : (name : CellName) (held : Cell P) → cell_of sim step ≡ Some name → content then_there name ≡ Some held → IsCellRefusal sim step before held fault → IsRefusedByShown sim v step fault
     refused-at name held named holds why = refused-by step fault (refused-there sim then_there step v.worker whose named then-part holds why)
 
-    refused-at-board : cell_of sim step ≡ Some board_cell → IsCellRefusal sim step before (on_board there.board) fault → IsRefusedBy sim v step fault
+    refused-at-board : cell_of sim step ≡ Some board_cell → IsCellRefusal sim step before (on_board there.board) fault → IsRefusedByShown sim v step fault
     refused-at-board named = refused-at board_cell (on_board there.board) named (ap (λ (b : Board). (let o : Option (Cell P) = Some (on_board b) in o)) then-board)
 
-    refused-at-book : cell_of sim step ≡ Some book_cell → IsCellRefusal sim step before (in_book there.book) fault → IsRefusedBy sim v step fault
+    refused-at-book : cell_of sim step ≡ Some book_cell → IsCellRefusal sim step before (in_book there.book) fault → IsRefusedByShown sim v step fault
     refused-at-book named = refused-at book_cell (in_book there.book) named (ap (λ (b : Book). (let o : Option (Cell P) = Some (in_book b) in o)) then-book)
 
   -- where the definitions refuse it, it is not lawful

@@ -24,7 +24,7 @@ use Rattle.vt_kernel.specs.Held.{HeldWorker, StandsFor}
 use Rattle.vt_places.specs.declared.view.View.{View}
 use Rattle.vt_places.specs.Hands.{empty_hand}
 use Rattle.vt_places.specs.Slots.{cell_count, word_at, empty_word, claimed_word, home_word, cell_at, held_in}
-use Rattle.vt_places.specs.Kept.{Sat, HasGrown, Kept, Rests}
+use Rattle.vt_places.specs.Kept.{Sat, HasGrown, IsTableRight, Rests}
 use Rattle.vt_cells.specs.Calls.{Acts, PassesThere, IsCellStepOf}
 use Rattle.vt_places.specs.Calls.{Unvisited, Closes, Known, Reaches, Visited, Holding, ShowsFloor, MaySee}
 use Rattle.vt_places.proofs.Growth.{grown-not}
@@ -50,7 +50,7 @@ may-see end t (Some now) cell h = inr h
 module _ {S P K : Type 0} (handlers : Handlers S P K) (config : Config) (lawful : IsLawful (simulation_of handlers config)) where
   -- without a step, and with the cell as it was
   pub leaves-unvisited : (slots id k x : ℕ) (m : Sat P) (seen : Option Time) (found : Cell P) → k < cell_count config.workers → x ≢ claimed_word → (x ≡ empty_word → found ≡ in_inbox []) → Holding config m k found found → MaySee (end_of config) seen found
-      → Allows (Kept (simulation_of handlers config) config) slots id m (word_at k) (λ _. x) (λ _. (λ (n : ℕ) (after : Sat P). GaveBack m after × Unvisited m.0 (unwrap_or seen m.0.seen) after.0) x)
+      → Allows (IsTableRight (simulation_of handlers config) config) slots id m (word_at k) (λ _. x) (λ _. (λ (n : ℕ) (after : Sat P). GaveBack m after × Unvisited m.0 (unwrap_or seen m.0.seen) after.0) x)
   leaves-unvisited slots id k x m seen found near home empty h sees =
       let sim = simulation_of handlers config in
       let same : Leads sim m.0.worker (cell_at sim.workers k) m.0.part found [] m.0.part (held_in h.slot) [] =
@@ -104,7 +104,7 @@ module _ {S P K : Type 0} (handlers : Handlers S P K) (config : Config) (lawful 
       → x ≢ claimed_word → (x ≡ empty_word → now ≡ in_inbox [])
       → IsAny (worker_of (simulation_of handlers config) step) m.0.worker → IsAny (cell_of (simulation_of handlers config) step) (cell_at config.workers k)
       → Holding config m k found now → Acts handlers config step reply before found left now → AreWithin step before found left now → Reaches handlers config m.0 before
-      → Allows (Kept (simulation_of handlers config) config) slots id m (word_at k) (λ _. x) (λ _. (λ (n : ℕ) (after : Sat P). GaveBack m after × Visited handlers config m.0 before step reply left m.0.seen after.0) x)
+      → Allows (IsTableRight (simulation_of handlers config) config) slots id m (word_at k) (λ _. x) (λ _. (λ (n : ℕ) (after : Sat P). GaveBack m after × Visited handlers config m.0 before step reply left m.0.seen after.0) x)
   leaves-visited slots id k x m found now before left step reply near home empty whose at h does within way =
       let sim = simulation_of handlers config in
       let a = does.acts way.part way.stands in
@@ -121,7 +121,7 @@ module _ {S P K : Type 0} (handlers : Handlers S P K) (config : Config) (lawful 
       → x ≢ claimed_word → (x ≡ empty_word → now ≡ in_inbox [])
       → IsAny (worker_of (simulation_of handlers config) step) m.0.worker → IsAny (cell_of (simulation_of handlers config) step) (cell_at config.workers k)
       → Holding config m k found now → IsCellStepOf handlers config step before left found now answer → Reaches handlers config m.0 before
-      → Allows (Kept (simulation_of handlers config) config) slots id m (word_at k) (λ _. x)
+      → Allows (IsTableRight (simulation_of handlers config) config) slots id m (word_at k) (λ _. x)
       (λ _. (λ (n : ℕ) (after : Sat P). GaveBack m after × MatchResult answer (λ reply. Visited handlers config m.0 before step reply left m.0.seen after.0) (λ _. Unvisited m.0 m.0.seen after.0)) x)
   leaves-tried slots id k x m found now before left step (Ok reply) near home empty whose at h tried way =
       leaves-visited slots id k x m found now before left step reply near home empty whose at h tried.done (λ part new was is past. absurd (tried.within new is past)) way
@@ -133,7 +133,7 @@ module _ {S P K : Type 0} (handlers : Handlers S P K) (config : Config) (lawful 
   pub leaves-looked : (slots id k : ℕ) (m : Sat P) (before left : HeldWorker S P K) (step : Step) (reply : Reply) → k < config.workers → Rests m
       → IsAny (worker_of (simulation_of handlers config) step) m.0.worker → IsAny (cell_of (simulation_of handlers config) step) (cell_at config.workers k)
       → Acts handlers config step reply before (in_inbox []) left (in_inbox []) → AreWithin step before (in_inbox []) left (in_inbox []) → Reaches handlers config m.0 before
-      → Allows (Kept (simulation_of handlers config) config) slots id m (word_at k) (λ n. n) (Looked m (λ after. (after.1 ≡ []) × Visited handlers config m.0 before step reply left m.0.seen after.0))
+      → Allows (IsTableRight (simulation_of handlers config) config) slots id m (word_at k) (λ n. n) (Looked m (λ after. (after.1 ≡ []) × Visited handlers config m.0 before step reply left m.0.seen after.0))
   leaves-looked slots id k m before left step reply near rests whose at does within way =
       let sim = simulation_of handlers config in
       let a = does.acts way.part way.stands in
@@ -145,7 +145,7 @@ module _ {S P K : Type 0} (handlers : Handlers S P K) (config : Config) (lawful 
   -- after a close
   pub leaves-closed : (slots id k : ℕ) (m : Sat P) (seen : Time) (found now : Cell P) → k < cell_count config.workers → cell_at config.workers k ≡ book_cell → Holding config m k found now
       → ((part : Part P) → act (simulation_of handlers config) Close part found ≡ record { part = part; cell = now; answer = Ok Done }) → ShowsFloor (end_of config) seen now
-      → Allows (Kept (simulation_of handlers config) config) slots id m (word_at k) (λ _. home_word) (λ _. (λ (n : ℕ) (after : Sat P). (after.1 ≡ []) × Closes (simulation_of handlers config) m.0 seen after.0) home_word)
+      → Allows (IsTableRight (simulation_of handlers config) config) slots id m (word_at k) (λ _. home_word) (λ _. (λ (n : ℕ) (after : Sat P). (after.1 ≡ []) × Closes (simulation_of handlers config) m.0 seen after.0) home_word)
   leaves-closed slots id k m seen found now near at h does sees =
       let sim = simulation_of handlers config in
       let own : List Made = record { step = Close; reply = Done } ∷ [] in

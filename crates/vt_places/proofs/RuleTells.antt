@@ -10,13 +10,13 @@ use Rattle.vt_model.specs.Simulation.{Simulation}
 use Rattle.vt_steps.specs.declared.step.Step.{Step}
 use Rattle.vt_steps.specs.Marked.{Marked, marked}
 use Rattle.vt_places.specs.declared.view.View.{View}
-use Rattle.vt_places.specs.Kept.{Standing, HasGrown, Kept}
+use Rattle.vt_places.specs.Kept.{TableState, HasGrown, IsTableRight}
 use Rattle.vt_places.proofs.OneList.{AreTold, places-tell, list-grows}
 use Rattle.vt_places.proofs.Seating.{set-there}
 
 module _ {S P : Type 0} (sim : Simulation S P) (config : Config) where
   -- two lists that the rule allows at one state are one
-  pub one-log : (s : Standing P) (k l : Kept sim config s) → k.log ≡ l.log
+  pub one-log : (s : TableState P) (k l : IsTableRight sim config s) → k.log ≡ l.log
   one-log s k l = places-tell k.made k.log l.log k.marks (subst (λ (n : ℕ). AllByRecursion (λ (m : Marked). m.worker < n) l.log) (sym l.count ∙ k.count) l.marks) told
     where
       told : AreTold k.made k.log l.log
@@ -28,7 +28,7 @@ module _ {S P : Type 0} (sim : Simulation S P) (config : Config) where
           )
 
   -- where one seat leaves the list with steps behind it, and the others know the same, the list is that one
-  pub next-log : (s t : Standing P) (id : ℕ) (v w : View P) (steps : List Step) (k : Kept sim config s) (l : Kept sim config t)
+  pub next-log : (s t : TableState P) (id : ℕ) (v w : View P) (steps : List Step) (k : IsTableRight sim config s) (l : IsTableRight sim config t)
       → get_elem? s.views id ≡ some v → t.views ≡ set s.views id w → w.worker ≡ v.worker → w.log ≡ k.log ++ marked v.worker steps → l.log ≡ k.log ++ marked v.worker steps
   next-log s t id v w steps k l at views same_worker left =
       list-grows k.made v.worker k.log l.log steps k.marks (subst (λ (n : ℕ). AllByRecursion (λ (m : Marked). m.worker < n) l.log) (sym l.count ∙ (ap length views ∙ length-set s.views id w) ∙ k.count) l.marks) (k.each id v at).inside others

@@ -22,7 +22,7 @@ use Rattle.vt_places.specs.declared.slot.Slot.{Slot}
 use Rattle.vt_places.specs.declared.view.View.{View}
 use Rattle.vt_places.specs.Hands.{empty_hand, holding}
 use Rattle.vt_places.specs.Slots.{cell_count, word_at, cell_at, held_in, IsSlotOf}
-use Rattle.vt_places.specs.Kept.{Standing, IsSeated, IsClaimed, Makes, Sits, Kept, first_view, left_view, next_view}
+use Rattle.vt_places.specs.Kept.{TableState, IsSeated, IsClaimed, Makes, Sits, IsTableRight, first_view, left_view, next_view}
 use Rattle.vt_places.proofs.Cells.{not-empty}
 use Rattle.vt_places.proofs.Growth.{grown-not, grown-before}
 use Rattle.vt_key.proofs.ListLemmas.{every-weaker}
@@ -70,17 +70,17 @@ module _ {S P : Type 0} (sim : Simulation S P) (config : Config) where
 
   -- ---- one more place
 
-  abbrev parted : Standing P → ℕ → View P → Standing P
+  abbrev parted : TableState P → ℕ → View P → TableState P
   parted s id v = record { words = s.words; homes = s.homes; views = set s.views id (left_view v) ++ next_view v ∷ [] }
 
-  abbrev Was : Standing P → ℕ → ℕ → View P → Type 0
+  abbrev Was : TableState P → ℕ → ℕ → View P → Type 0
   Was s made i a = ((u : View P) × (get_elem? s.views i ≡ some u) × (u.worker ≡ a.worker)) ⊎ ((i ≡ length s.views) × (a.worker ≡ made))
 
-  abbrev WasHeld : Standing P → ℕ → View P → Type 0
+  abbrev WasHeld : TableState P → ℕ → View P → Type 0
   WasHeld s i a = ((u : View P) × (get_elem? s.views i ≡ some u) × (u.hand ≡ a.hand)) ⊎ (a.hand ≡ empty_hand)
 
   -- the seat that makes the others makes the next one
-  pub splits : (id : ℕ) (v : View P) → 0 < length v.waiting → Splits (Kept sim config) id v (left_view v) (next_view v)
+  pub splits : (id : ℕ) (v : View P) → 0 < length v.waiting → Splits (IsTableRight sim config) id v (left_view v) (next_view v)
   splits id v some_left s r at = record {
     log = r.log;
     made = r.made + 1;
@@ -227,7 +227,7 @@ module _ {S P : Type 0} (sim : Simulation S P) (config : Config) where
       → ((k : ℕ) → get_or words k 0 ≡ 0)
       → ((k : ℕ) → k < sim.workers → content (opening_world sim 0) (inbox_of k) ≡ Some (in_inbox []))
       → ((k : ℕ) → k < cell_count sim.workers → (slot : Slot P) × (get_elem? (map some slots) k ≡ some (some slot)) × (content (opening_world sim 0) (cell_at sim.workers k) ≡ Some (held_in slot)) × IsSlotOf config k slot)
-      → Kept sim config (tabled words slots (first_view sim))
+      → IsTableRight sim config (tabled words slots (first_view sim))
   unfolding run own_steps
   starts words slots some_worker wide deep blank_words empty full = record {
     log = [];

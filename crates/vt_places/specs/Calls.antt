@@ -200,7 +200,7 @@ module _ {S P : Type 0} (sim : Simulation S P) where
   -- a step is refused by a world that cells and places showed: there is a list of steps in which the place's are its own, which has
   -- grown at its end alone since the place left it, and after it and local steps of the place the step is refused so. Where there is
   -- one worker that list is the place's own steps
-  pub record IsRefusedBy (v : View P) (step : Step) (fault : Fault) : Type 0 where
+  pub record IsRefusedByShown (v : View P) (step : Step) (fault : Fault) : Type 0 where
     pub log : List Marked
     pub right : AllByRecursion (IsMarkedRight sim) log
     pub part : slice_get (shown sim log).parts v.worker ≡ Some v.part
@@ -217,25 +217,25 @@ module _ {S P : Type 0} (sim : Simulation S P) where
   abbrev pub IsCutRefusal : View P → Fault → Type 0
   IsCutRefusal v fault =
       ((fault ≡ Busy) × (1 < sim.workers))
-      ⊎ (IsRefusedBy v (Cut v.worker) fault × (((fault ≡ NotLawful) × (has_cut_since false (map answered v.mine) ≡ true)) ⊎ (fault ≡ Exhausted)))
+      ⊎ (IsRefusedByShown v (Cut v.worker) fault × (((fault ≡ NotLawful) × (has_cut_since false (map answered v.mine) ≡ true)) ⊎ (fault ≡ Exhausted)))
 
   -- why a report is refused: the board was claimed by another place; or the report is not lawful
   abbrev pub IsReportRefusal : View P → Fault → Type 0
-  IsReportRefusal v fault = ((fault ≡ Busy) × (1 < sim.workers)) ⊎ (IsRefusedBy v (Report v.worker) fault × (fault ≡ NotLawful))
+  IsReportRefusal v fault = ((fault ≡ Busy) × (1 < sim.workers)) ⊎ (IsRefusedByShown v (Report v.worker) fault × (fault ≡ NotLawful))
 
   -- why a commit is refused: the book was claimed by another place; or it is closed, and then the worker's floor is the end of
   -- the run; or memory was refused
   abbrev pub IsCommitRefusal : View P → Fault → Type 0
   IsCommitRefusal v fault =
       ((fault ≡ Busy) × (1 < sim.workers))
-      ⊎ (IsRefusedBy v (Commit v.worker) fault × (((fault ≡ Closed) × (v.part.floor ≡ sim.end)) ⊎ (fault ≡ Memory)))
+      ⊎ (IsRefusedByShown v (Commit v.worker) fault × (((fault ≡ Closed) × (v.part.floor ≡ sim.end)) ⊎ (fault ≡ Memory)))
 
   -- why a close is refused: the book was claimed by another place; or it is closed, and then the worker's floor is the end of
   -- the run; or its floor is not the end, and then the place was not shown the end
   abbrev pub IsCloseRefusal : View P → Fault → Type 0
   IsCloseRefusal v fault =
       ((fault ≡ Busy) × (1 < sim.workers))
-      ⊎ (IsRefusedBy v Close fault × (((fault ≡ Closed) × (v.part.floor ≡ sim.end)) ⊎ ((fault ≡ NotLawful) × TimeBefore v.seen sim.end)))
+      ⊎ (IsRefusedByShown v Close fault × (((fault ≡ Closed) × (v.part.floor ≡ sim.end)) ⊎ ((fault ≡ NotLawful) × TimeBefore v.seen sim.end)))
 
 module _ {S P : Type 0} (sim : Simulation S P) where
   -- the definitions refuse a step so after the place's own steps and these local steps

@@ -17,8 +17,8 @@ use Rattle.vt_places.specs.Hands.{empty_hand, holding}
 use Rattle.vt_places.specs.Slots.{cell_count, word_at, empty_word, claimed_word, cell_at, held_in, IsSlotOf}
 
 -- the words, the slots and the views of a station's table
-abbrev pub Standing : Type 0 → Type 0
-Standing P = State (Slot P) (View P)
+abbrev pub TableState : Type 0 → Type 0
+TableState P = State (Slot P) (View P)
 
 -- a view, and the slots that its seat has taken
 abbrev pub Sat : Type 0 → Type 0
@@ -31,7 +31,7 @@ pub record HasGrown (w : ℕ) (former log : List Marked) : Type 0 where
   pub others : AllByRecursion (λ m. ¬ (m.worker ≡ w)) since
 
 -- cell k is held by a seat
-pub record IsHeld {P : Type 0} (s : Standing P) (k : ℕ) : Type 0 where
+pub record IsHeld {P : Type 0} (s : TableState P) (k : ℕ) : Type 0 where
   pub seat : ℕ
   pub view : View P
   pub cell : Cell P
@@ -39,7 +39,7 @@ pub record IsHeld {P : Type 0} (s : Standing P) (k : ℕ) : Type 0 where
   pub hand : view.hand ≡ holding k cell
 
 -- worker q has a seat
-pub record IsSeated {P : Type 0} (s : Standing P) (q : ℕ) : Type 0 where
+pub record IsSeated {P : Type 0} (s : TableState P) (q : ℕ) : Type 0 where
   pub seat : ℕ
   pub view : View P
   pub there : get_elem? s.views seat ≡ some view
@@ -47,7 +47,7 @@ pub record IsSeated {P : Type 0} (s : Standing P) (q : ℕ) : Type 0 where
 
 module _ {S P : Type 0} (sim : Simulation S P) where
   -- cell k is claimed by a place, which found this in it: its word says so, its slot is not at home, and the shown world has it
-  pub record IsClaimed (s : Standing P) (log : List Marked) (k : ℕ) (cell : Cell P) : Type 0 where
+  pub record IsClaimed (s : TableState P) (log : List Marked) (k : ℕ) (cell : Cell P) : Type 0 where
     pub near : k < cell_count sim.workers
     pub word : slice_index s.words (word_at k) ≡ claimed_word
     pub away : get_elem? s.homes k ≡ some none
@@ -61,7 +61,7 @@ module _ {S P : Type 0} (sim : Simulation S P) where
 
   -- what is said of the seat j with the view v: the shown world has its part, the list's steps of its worker are its own, the list
   -- is the one that it left with steps of others behind it, and the book's floor is not below the one that it was shown
-  pub record Sits (s : Standing P) (log : List Marked) (made maker j : ℕ) (v : View P) : Type 0 where
+  pub record Sits (s : TableState P) (log : List Marked) (made maker j : ℕ) (v : View P) : Type 0 where
     pub inside : v.worker < made
     pub part : slice_get (shown sim log).parts v.worker ≡ Some v.part
     pub mine : own_steps_of sim v.worker log ≡ map answered v.mine
@@ -73,14 +73,14 @@ module _ {S P : Type 0} (sim : Simulation S P) where
 
   module _ (config : Config) where
     -- cell k is at home, and the shown world has what is in it
-    pub record IsAtHome (s : Standing P) (log : List Marked) (k : ℕ) : Type 0 where
+    pub record IsAtHome (s : TableState P) (log : List Marked) (k : ℕ) : Type 0 where
       pub slot : Slot P
       pub home : get_elem? s.homes k ≡ some (some slot)
       pub cell : content (shown sim log) (cell_at sim.workers k) ≡ Some (held_in slot)
       pub right : IsSlotOf config k slot
 
     -- the rule
-    pub record Kept (s : Standing P) : Type 0 where
+    pub record IsTableRight (s : TableState P) : Type 0 where
       -- the steps, how many places there are, and which of them makes the others
       pub log : List Marked
       pub made : ℕ

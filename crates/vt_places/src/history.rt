@@ -9,7 +9,7 @@ ghost use Rattle.vt_model.specs.Simulation.{Simulation};
 ghost use Rattle.vt_steps.specs.declared.step.Step.{Step};
 ghost use Rattle.vt_steps.specs.Marked.{Marked, marked};
 ghost use Rattle.vt_places.specs.declared.view.View.{View};
-ghost use Rattle.vt_places.specs.Kept.{Standing, HasGrown, Kept};
+ghost use Rattle.vt_places.specs.Kept.{TableState, HasGrown, IsTableRight};
 
 /// There is one list of all steps, and it grows at its end alone. Each place knows the list as its last visit left it, and its
 /// worker has made no step since. These beginnings determine the list: two lists that fit all of them are equal (`told`). So
@@ -19,8 +19,8 @@ pub fn places_tell_the_list<S, P>()
     ghost sim: { Simulation S P }
     ensures told { (workers : ℕ) (log other : List Marked) → AllByRecursion (λ m. m.worker < workers) log → AllByRecursion (λ m. m.worker < workers) other →
         ((q : ℕ) → q < workers → (former : List Marked) × HasGrown q former log × HasGrown q former other) → log ≡ other }
-    ensures one { (config : Config) (s : Standing P) (k l : Kept sim config s) → k.log ≡ l.log }
-    ensures next { (config : Config) (s t : Standing P) (id : ℕ) (v w : View P) (steps : List Step) (k : Kept sim config s) (l : Kept sim config t) →
+    ensures one { (config : Config) (s : TableState P) (k l : IsTableRight sim config s) → k.log ≡ l.log }
+    ensures next { (config : Config) (s t : TableState P) (id : ℕ) (v w : View P) (steps : List Step) (k : IsTableRight sim config s) (l : IsTableRight sim config t) →
         get_elem? s.views id ≡ some v → t.views ≡ set s.views id w → w.worker ≡ v.worker →
         w.log ≡ k.log ++ marked v.worker steps → l.log ≡ k.log ++ marked v.worker steps }
 {}

@@ -21,9 +21,9 @@ pub(crate) struct Law<M> {
 
 impl<M: EventModel> TableRule<Slot<M::Payload>, View<M::Payload>, About<M>> for Law<M> {
     ghost use Rattle.vt_model.specs.Simulation.{simulation_of};
-    ghost use Rattle.vt_places.specs.Kept.{Kept, first_view};
+    ghost use Rattle.vt_places.specs.Kept.{IsTableRight, first_view};
 
-    ghost holds = { λ key. Kept (simulation_of (M.handlers key.model.value) key.config) key.config };
+    ghost holds = { λ key. IsTableRight (simulation_of (M.handlers key.model.value) key.config) key.config };
 
     ghost first = { λ key. first_view (simulation_of (M.handlers key.model.value) key.config) };
 }

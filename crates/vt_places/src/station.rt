@@ -12,7 +12,7 @@ ghost use Rattle.vt_steps.specs.Cells.{Cell, in_inbox, on_board, in_book, worker
 ghost use Rattle.vt_steps.specs.Laws.{IsAny};
 ghost use Rattle.vt_key.specs.declared.limits.TheConstants.{MAX_WORKERS};
 ghost use Rattle.vt_places.specs.Slots.{cell_count, word_at, empty_word, claimed_word, cell_at};
-ghost use Rattle.vt_places.specs.Kept.{Kept, Rests};
+ghost use Rattle.vt_places.specs.Kept.{IsTableRight, Rests};
 ghost use Rattle.vt_places.specs.Commits.{Commits};
 ghost use Rattle.vt_cells.specs.Calls.{IsCellStepOf, CommitsTo};
 ghost use Rattle.vt_places.specs.Calls.{Took, TookThere, Holding, MaySee, Reaches, Visited, Unvisited, Closes, ShowsFloor, answer_as};
@@ -127,7 +127,7 @@ impl<M: EventModel> Station<M> {
     fn swap<J: Aim<M::Payload>, T>(&self, seat: &mut Seat<M>, cell: usize, _told: &T) -> u64
         requires table { seat.old.table_id ≡ self.now.table.shared.table_id }
         requires near { cell < cell_count self.now.workers }
-        requires allowed { let shelf = self.now.table.shared in cell < cell_count shelf.key.config.workers → Allows (Kept (simulation_of (M.handlers shelf.key.model.value) shelf.key.config) shelf.key.config) shelf.table_id.slots seat.old.id seat.old.me (word_at cell) (λ _. claimed_word) J.after }
+        requires allowed { let shelf = self.now.table.shared in cell < cell_count shelf.key.config.workers → Allows (IsTableRight (simulation_of (M.handlers shelf.key.model.value) shelf.key.config) shelf.key.config) shelf.table_id.slots seat.old.id seat.old.me (word_at cell) (λ _. claimed_word) J.after }
         ensures told { (seat.new.table_id ≡ seat.old.table_id) × (seat.new.id ≡ seat.old.id) × J.after result seat.new.me }
     {
         self.table
@@ -139,7 +139,7 @@ impl<M: EventModel> Station<M> {
     fn store<J: Aim<M::Payload>, T>(&self, seat: &mut Seat<M>, cell: usize, word: u64, _told: &T)
         requires table { seat.old.table_id ≡ self.now.table.shared.table_id }
         requires near { cell < cell_count self.now.workers }
-        requires allowed { let shelf = self.now.table.shared in let sim = simulation_of (M.handlers shelf.key.model.value) shelf.key.config in IsLawful sim → cell < cell_count shelf.key.config.workers → Allows (Kept sim shelf.key.config) shelf.table_id.slots seat.old.id seat.old.me (word_at cell) (λ _. word) (λ _. J.after word) }
+        requires allowed { let shelf = self.now.table.shared in let sim = simulation_of (M.handlers shelf.key.model.value) shelf.key.config in IsLawful sim → cell < cell_count shelf.key.config.workers → Allows (IsTableRight sim shelf.key.config) shelf.table_id.slots seat.old.id seat.old.me (word_at cell) (λ _. word) (λ _. J.after word) }
         ensures told { (seat.new.table_id ≡ seat.old.table_id) × (seat.new.id ≡ seat.old.id) × J.after word seat.new.me }
     {
         self.table
@@ -156,7 +156,7 @@ impl<M: EventModel> Station<M> {
     ) -> u64
         requires table { seat.old.table_id ≡ self.now.table.shared.table_id }
         requires near { cell < cell_count self.now.workers }
-        requires allowed { let shelf = self.now.table.shared in let sim = simulation_of (M.handlers shelf.key.model.value) shelf.key.config in IsLawful sim → Allows (Kept sim shelf.key.config) shelf.table_id.slots seat.old.id seat.old.me (word_at cell) (λ n. n) J.after }
+        requires allowed { let shelf = self.now.table.shared in let sim = simulation_of (M.handlers shelf.key.model.value) shelf.key.config in IsLawful sim → Allows (IsTableRight sim shelf.key.config) shelf.table_id.slots seat.old.id seat.old.me (word_at cell) (λ n. n) J.after }
         ensures told { (seat.new.table_id ≡ seat.old.table_id) × (seat.new.id ≡ seat.old.id) × J.after result seat.new.me }
     {
         self.table.shared.load::<Tell<J>>(seat, self.word_of(cell))

@@ -12,8 +12,8 @@ abbrev pub twarp : Program
 twarp = program_of meaning_of IsMadeOf (codes "twarp") twarp_models
 
 -- what the words ask for was done
-abbrev pub IsDone : List Text → Option (List ℕ) → Option (List ℕ) → Option (List ℕ) → Type 0
-IsDone words remaining old new = IsDoneBy twarp words remaining old new
+abbrev pub IsDoneByTwarp : List Text → Option (List ℕ) → Option (List ℕ) → Option (List ℕ) → Type 0
+IsDoneByTwarp words remaining old new = IsDoneBy twarp words remaining old new
 
 -- what was done where it ended with a refusal
 abbrev pub EndsBy : Fault → List Text → Option (List ℕ) → Option (List ℕ) → Option (List ℕ) → Type 0

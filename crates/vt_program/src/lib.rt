@@ -14,9 +14,9 @@ ghost use Rattle.vt_key.specs.declared.fault.Fault.{Fault};
 ghost use Rattle.vt_command.specs.Requests.{AskHelp, IsRefusedAs};
 ghost use Rattle.vt_program.specs.Refusals.{TellsRefusal, status_of};
 ghost use Rattle.vt_program.specs.Models.{IsChoice, IsMadeOf, meaning_of};
-ghost use Rattle.vt_program.specs.Outcomes.{AskWithBadLine, IsDone, IsRead, EndsBy};
+ghost use Rattle.vt_program.specs.Outcomes.{AskWithBadLine, IsDoneByTwarp, IsRead, EndsBy};
 ghost use Rattle.vt_tasks.specs.Models.{CarriesOut};
-ghost use Rattle.vt_tasks.specs.Tasks.{IsCounted};
+ghost use Rattle.vt_tasks.specs.Tasks.{BeginsWithinLimit};
 
 pub use models::TwarpModel;
 use models::{carry_out, model_of};
@@ -74,7 +74,7 @@ pub fn program<H: Threads + Wait + Sync, S: AsStr, R: Read, O: Write, E: Write, 
     err: &mut E,
     watch: &W,
 ) -> u8
-    ensures done { result ≡ 0 → IsDone (map S.text words.now) (R.remaining reader.old) (O.contents out.old) (O.contents out.new) }
+    ensures done { result ≡ 0 → IsDoneByTwarp (map S.text words.now) (R.remaining reader.old) (O.contents out.old) (O.contents out.new) }
     ensures silent { result ≡ 0 → Keeps (E.contents err.old) (E.contents err.new) }
     ensures refused { result ≢ 0 → (fault : Fault) × (result ≡ status_of fault)
         × EndsBy fault (map S.text words.now) (R.remaining reader.old) (O.contents out.old) (O.contents out.new)
@@ -88,7 +88,7 @@ pub fn program<H: Threads + Wait + Sync, S: AsStr, R: Read, O: Write, E: Write, 
         (),
         Fault,
     >
-        requires { IsCounted task.now × IsChoice chosen.now }
+        requires { BeginsWithinLimit task.now × IsChoice chosen.now }
         ensures { CarriesOut meaning_of IsMadeOf chosen.now task.now (R.remaining input.old) (R.remaining input.new) (O.contents output.old) (O.contents output.new) result }
     { carry_out(rt, alloc, &model_of(chosen), task, watch, input, output) };
     models_program(

@@ -2,7 +2,7 @@
 
 ghost use Rattle.std.specs.Prelude.{◌≡◌, OnOk, IfErr, Some};
 ghost use Rattle.vt_options.specs.Own.{AreInRange};
-ghost use Rattle.vt_tasks.specs.Tasks.{IsCounted, IsTaskDone, TaskEnds, KeepsInput};
+ghost use Rattle.vt_tasks.specs.Tasks.{BeginsWithinLimit, IsTaskDone, TaskEnds, KeepsInput};
 ghost use Rattle.vt_command.specs.Table.{hop_table, phold_table, stations_table};
 ghost use Rattle.vt_program.specs.Models.{IsChoice, IsMadeOf, hop_values, phold_values, stations_values, meaning_of};
 
@@ -88,7 +88,7 @@ pub(crate) fn carry_out<H: Threads + Wait + Sync, W: Watch + Sync, R: Read, O: W
     input: &mut R,
     out: &mut O,
 ) -> Result<(), Fault>
-    requires counted { IsCounted task.now }
+    requires counted { BeginsWithinLimit task.now }
     ensures ok { OnOk result (IsTaskDone (meaning_of model.now).handlers task.now (R.remaining input.old) (O.contents out.old) (O.contents out.new)) }
     ensures err { IfErr result (TaskEnds (meaning_of model.now).handlers task.now (R.remaining input.old) (O.contents out.old) (O.contents out.new)) }
     ensures unread { KeepsInput task.now (R.remaining input.old) (R.remaining input.new) }

@@ -8,7 +8,7 @@ ghost use Rattle.vt_key.specs.declared.fault.Fault.{Fault};
 ghost use Rattle.vt_options.specs.Own.{HaveDefaults, AreWithin, own_app, own_line};
 ghost use Rattle.vt_options.specs.Requests.{AskHelpOf, IsRefusedAsOf};
 ghost use Rattle.vt_tasks.specs.Refusals.{TellsRefusalOf, status_of};
-ghost use Rattle.vt_tasks.specs.Tasks.{IsCounted};
+ghost use Rattle.vt_tasks.specs.Tasks.{BeginsWithinLimit};
 ghost use Rattle.vt_tasks.specs.Models.{any_handlers, CarriesOut};
 ghost use Rattle.vt_runner.specs.OneModel.{IsDoneOf, EndsOf, IsReadOf, AskBadLineOf};
 
@@ -116,7 +116,7 @@ where
         (),
         Fault,
     >
-        requires { IsCounted task.now × ((values : _) → values.now ≡ chosen.now.values.items → F.pre make values) }
+        requires { BeginsWithinLimit task.now × ((values : _) → values.now ≡ chosen.now.values.items → F.pre make values) }
         ensures { CarriesOut (λ model. any_handlers (M.handlers model)) (λ choice made. FnReturnsAt F.Fn make choice.values.items made) chosen.now task.now (R.remaining input.old) (R.remaining input.new) (O.contents output.old) (O.contents output.new) result }
     {
         let Some(model) = make(chosen.values.as_slice()) else {

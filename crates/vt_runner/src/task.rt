@@ -1,7 +1,7 @@
 //! A run or a replay of a model, whichever is asked for.
 
 ghost use Rattle.std.specs.Prelude.{OnOk, IfErr};
-ghost use Rattle.vt_tasks.specs.Tasks.{IsCounted, IsTaskDone, TaskEnds, KeepsInput};
+ghost use Rattle.vt_tasks.specs.Tasks.{BeginsWithinLimit, IsTaskDone, TaskEnds, KeepsInput};
 
 use crate::simulate;
 use std::alloc::Global;
@@ -34,7 +34,7 @@ pub fn carry_out<
 where
     M::State: Send,
     M::Kept: Send,
-    requires counted { IsCounted task.now }
+    requires counted { BeginsWithinLimit task.now }
     ensures ok { OnOk result (IsTaskDone (M.handlers model.now) task.now (R.remaining reader.old) (O.contents out.old) (O.contents out.new)) }
     ensures err { IfErr result (TaskEnds (M.handlers model.now) task.now (R.remaining reader.old) (O.contents out.old) (O.contents out.new)) }
     ensures unread { KeepsInput task.now (R.remaining reader.old) (R.remaining reader.new) }

@@ -9,7 +9,7 @@ use Rattle.vt_steps.specs.declared.step.Reply.{Reply}
 use Rattle.vt_steps.specs.World.{World}
 use Rattle.vt_steps.specs.Next.{next, run, answers}
 use Rattle.vt_step_text.specs.declared.reading.NumberedStep.{NumberedStep}
-use Rattle.vt_step_text.specs.Replies.{Answered}
+use Rattle.vt_step_text.specs.Replies.{NumberedAnswer}
 use Rattle.vt_step_text.specs.Replays.{is_no_step, world_after, AreAnswered, steps_taken, AreRightlyAnswered}
 
 module _ {S P : Type 0} (sim : Simulation S P) where
@@ -33,24 +33,24 @@ module _ {S P : Type 0} (sim : Simulation S P) where
   one_taken world end step rest true e = e
   one_taken world end step rest false e = e ∙ sym (run_more world step rest)
 
-  taken : (world end : World P) (steps : List NumberedStep) (replies : List Answered) → AreAnswered sim world steps replies end → end ≡ run sim world (steps_taken sim steps replies)
+  taken : (world end : World P) (steps : List NumberedStep) (replies : List NumberedAnswer) → AreAnswered sim world steps replies end → end ≡ run sim world (steps_taken sim steps replies)
   taken world end [] [] h = h ∙ sym (run_none world)
   taken world end [] (reply ∷ replies) h = absurd h
   taken world end (step ∷ steps) [] h = absurd h
   taken world end (step ∷ steps) (reply ∷ replies) h =
       one_taken world end step.step (steps_taken sim steps replies) (is_no_step reply.answer) (taken (world_after sim world step.step reply.answer) end steps replies h.1)
 
-  abbrev Stand : List Answered → Type 0
+  abbrev Stand : List NumberedAnswer → Type 0
   Stand replies = AllByRecursion (λ reply. is_no_step reply.answer ≡ false) replies
 
   after : (world : World P) (step : Step) (answer : Result Reply Fault) → is_no_step answer ≡ false → world_after sim world step answer ≡ (next sim world step).world
   after world step answer e = rw e refl
 
-  answered : (world : World P) (step : NumberedStep) (reply : Answered) → is_no_step reply.answer ≡ false → IsTrue (is_no_step reply.answer) ⊎ (reply.answer ≡ (next sim world step.step).answer) → reply.answer ≡ (next sim world step.step).answer
+  answered : (world : World P) (step : NumberedStep) (reply : NumberedAnswer) → is_no_step reply.answer ≡ false → IsTrue (is_no_step reply.answer) ⊎ (reply.answer ≡ (next sim world step.step).answer) → reply.answer ≡ (next sim world step.step).answer
   answered world step reply e (inl none) = absurd cc
   answered world step reply e (inr is) = is
 
-  all_taken : (world end : World P) (steps : List NumberedStep) (replies : List Answered) → AreAnswered sim world steps replies end → Stand replies → end ≡ run sim world (map (λ step. step.step) steps)
+  all_taken : (world end : World P) (steps : List NumberedStep) (replies : List NumberedAnswer) → AreAnswered sim world steps replies end → Stand replies → end ≡ run sim world (map (λ step. step.step) steps)
   all_taken world end [] [] h stand = h ∙ sym (run_none world)
   all_taken world end [] (reply ∷ replies) h stand = absurd h
   all_taken world end (step ∷ steps) [] h stand = absurd h
@@ -58,7 +58,7 @@ module _ {S P : Type 0} (sim : Simulation S P) where
       all_taken (world_after sim world step.step reply.answer) end steps replies h.1 stand.1
       ∙ ap (λ (w : World P). run sim w (map (λ s. s.step) steps)) (after world step.step reply.answer stand.0) ∙ sym (run_more world step.step (map (λ s. s.step) steps))
 
-  all_answered : (world end : World P) (steps : List NumberedStep) (replies : List Answered) → AreAnswered sim world steps replies end → Stand replies
+  all_answered : (world end : World P) (steps : List NumberedStep) (replies : List NumberedAnswer) → AreAnswered sim world steps replies end → Stand replies
       → map (λ reply. reply.answer) replies ≡ answers sim world (map (λ step. step.step) steps)
   all_answered world end [] [] h stand = sym (answers_none world)
   all_answered world end [] (reply ∷ replies) h stand = absurd h
@@ -69,7 +69,7 @@ module _ {S P : Type 0} (sim : Simulation S P) where
       (rest ∙ ap (λ (w : World P). answers sim w (map (λ s. s.step) steps)) (after world step.step reply.answer stand.0))
       ∙ sym (answers_more world step.step (map (λ s. s.step) steps))
 
-  pub rightly_answered : (world end : World P) (steps : List NumberedStep) (replies : List Answered) → AreAnswered sim world steps replies end → AreRightlyAnswered sim world steps replies end
+  pub rightly_answered : (world end : World P) (steps : List NumberedStep) (replies : List NumberedAnswer) → AreAnswered sim world steps replies end → AreRightlyAnswered sim world steps replies end
   rightly_answered world end steps replies h = record {
     taken = taken world end steps replies h;
     all = all_taken world end steps replies h;

@@ -6,11 +6,11 @@ use Rattle.std.specs.Char.{is_ascii_digit}
 use Rattle.std.specs.Fmt.{decimal}
 use Rattle.std.proofs.lemmas.Bool.{lt-ltb, not-true}
 use Rattle.std.proofs.lemmas.Fmt.{digits_decimal}
-use Rattle.vt_text.proofs.NumberLemmas.{decimal_model, number_of-decimal}
+use Rattle.vt_text.proofs.NumberLemmas.{decimal_model, number_said-decimal}
 use Rattle.vt_steps.specs.declared.step.Step.{Step}
 use Rattle.vt_steps.specs.declared.step.Step.TheVariants.{Execute, Undo, Cancel, Home, Send, Fetch, Accept, Cut, Report, Commit, Close}
 use Rattle.vt_key.specs.declared.limits.TheConstants.{MAX_PROCESSES, MAX_WORKERS}
-use Rattle.vt_step_text.specs.StepText.{lines_of, is_passed_over, numbered, steps_from}
+use Rattle.vt_step_text.specs.StepText.{text_lines, is_passed_over, numbered, steps_from}
 use Rattle.vt_step_text.specs.StepLines.{step_text, text_of_steps, numbered_from, IsOf}
 use Rattle.vt_step_text.proofs.StepTextLemmas.{with_front, nothing_yet, read, at_end}
 use Rattle.std.proofs.Common.{lit<}
@@ -63,14 +63,14 @@ and_more : (n : ℕ) (rest : List ℕ) → n < 2 ^ 64 → is_line rest ≡ true 
 and_more n rest h e = rw (list_all-append (λ (byte : ℕ). not (byte == 10)) (decimal n) (32 ∷ rest), number_line n h, e) refl
 
 -- a line before a newline
-pub line_cut : (text rest : List ℕ) → is_line text ≡ true → lines_of (text ++ 10 ∷ rest) ≡ text ∷ lines_of rest
+pub line_cut : (text rest : List ℕ) → is_line text ≡ true → text_lines (text ++ 10 ∷ rest) ≡ text ∷ text_lines rest
 line_cut [] rest h = refl
 line_cut (x ∷ xs) rest h =
     let parts = and_parts (not (x == 10)) (is_line xs) h in
     let differs : (x == 10) ≡ false = not-true (x == 10) parts.0 in rw (differs, line_cut xs rest parts.1) refl
 
 below : (limit n : ℕ) → limit ≤ 2 ^ 64 → n < limit → number_below limit (decimal n) ≡ Some n
-below limit n few h = ap (option_and_then (if_below limit)) (number_of-decimal n (omega arith)) ∙ ap (λ b. cond b (Some n) None) (lt-ltb n limit h)
+below limit n few h = ap (option_and_then (if_below limit)) (number_said-decimal n (omega arith)) ∙ ap (λ b. cond b (Some n) None) (lt-ltb n limit h)
 
 module _ (lps workers : ℕ) (few : lps ≤ MAX_PROCESSES) (small : workers ≤ MAX_WORKERS) where
   process : (p : ℕ) → p < lps → number_below lps (decimal p) ≡ Some p
@@ -92,11 +92,11 @@ module _ (lps workers : ℕ) (few : lps ≤ MAX_PROCESSES) (small : workers ≤ 
   words_say (Undo p) h = rw (last_word p (omega arith)) (one Undo _ p (process p h))
   words_say (Cancel p stamp) h =
       rw (next_word p (decimal stamp.worker ++ 32 ∷ decimal stamp.serial) (omega arith), next_word stamp.worker (decimal stamp.serial) (omega arith), last_word stamp.serial h.2)
-      (two Cancel _ _ p stamp (process p h.0) (two stamp_of _ _ stamp.worker stamp.serial (worker stamp.worker h.1) (number_of-decimal stamp.serial h.2)))
+      (two Cancel _ _ p stamp (process p h.0) (two stamp_of _ _ stamp.worker stamp.serial (worker stamp.worker h.1) (number_said-decimal stamp.serial h.2)))
   words_say (Home w) h = rw (last_word w (omega arith)) (one Home _ w (worker w h))
   words_say (Send w v) h = rw (next_word w (decimal v) (omega arith), last_word v (omega arith)) (two Send _ _ w v (worker w h.0) (worker v h.1))
   words_say (Fetch w) h = rw (last_word w (omega arith)) (one Fetch _ w (worker w h))
-  words_say (Accept w i) h = rw (next_word w (decimal i) (omega arith), last_word i h.1) (two Accept _ _ w i (worker w h.0) (number_of-decimal i h.1))
+  words_say (Accept w i) h = rw (next_word w (decimal i) (omega arith), last_word i h.1) (two Accept _ _ w i (worker w h.0) (number_said-decimal i h.1))
   words_say (Cut w) h = rw (last_word w (omega arith)) (one Cut _ w (worker w h))
   words_say (Report w) h = rw (last_word w (omega arith)) (one Report _ w (worker w h))
   words_say (Commit w) h = rw (last_word w (omega arith)) (one Commit _ w (worker w h))
@@ -128,16 +128,16 @@ module _ (lps workers : ℕ) (few : lps ≤ MAX_PROCESSES) (small : workers ≤ 
   not_passed (Commit w) = refl
   not_passed Close = refl
 
-  read_from : (line : ℕ) (steps : List Step) → AllByRecursion (IsOf lps workers) steps → steps_from lps workers line (lines_of (text_of_steps steps)) ≡ Ok (numbered_from line steps)
+  read_from : (line : ℕ) (steps : List Step) → AllByRecursion (IsOf lps workers) steps → steps_from lps workers line (text_lines (text_of_steps steps)) ≡ Ok (numbered_from line steps)
   read_from line [] h = at_end lps workers line
   read_from line (step ∷ steps) h =
       let text = text_of_steps (step ∷ steps) in
       let rest = text_of_steps steps in
-      let cut : lines_of text ≡ step_text step ∷ lines_of rest = ap lines_of (append_assoc (step_text step) (10 ∷ []) rest) ∙ line_cut (step_text step) rest (one_line step h.0) in
+      let cut : text_lines text ≡ step_text step ∷ text_lines rest = ap text_lines (append_assoc (step_text step) (10 ∷ []) rest) ∙ line_cut (step_text step) rest (one_line step h.0) in
       let more = read_from (line + 1) steps h.1 in
-      sym (nothing_yet (steps_from lps workers line (lines_of text)))
+      sym (nothing_yet (steps_from lps workers line (text_lines text)))
       ∙ sym (read lps workers [] line text (step_text step) rest step cut (not_passed step) (sym (words_say step h.0)))
       ∙ ap (with_front (numbered line step ∷ [])) more
 
-  pub steps_again : (steps : List Step) → AllByRecursion (IsOf lps workers) steps → steps_from lps workers 1 (lines_of (text_of_steps steps)) ≡ Ok (numbered_from 1 steps)
+  pub steps_again : (steps : List Step) → AllByRecursion (IsOf lps workers) steps → steps_from lps workers 1 (text_lines (text_of_steps steps)) ≡ Ok (numbered_from 1 steps)
   steps_again steps h = read_from 1 steps h

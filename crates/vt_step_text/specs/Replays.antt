@@ -10,7 +10,7 @@ use Rattle.vt_steps.specs.World.{World, opening_world, least, book_floor, book_r
 use Rattle.vt_steps.specs.Next.{next, run, answers}
 use Rattle.vt_text.specs.declared.version.Version.{Version}
 use Rattle.vt_step_text.specs.declared.reading.NumberedStep.{NumberedStep}
-use Rattle.vt_step_text.specs.Replies.{Answered, replay_text}
+use Rattle.vt_step_text.specs.Replies.{NumberedAnswer, replay_text}
 
 -- an answer that stands for no step: memory was refused, or a counter is spent
 abbrev pub is_no_step : Result Reply Fault → Bool
@@ -24,12 +24,12 @@ module _ {S P : Type 0} (sim : Simulation S P) where
   world_after world step answer = if is_no_step answer then world else (next sim world step).world
 
   -- the step of a line may be answered so: as it is answered in this world, or by an answer that stands for no step
-  pub record IsAnswered (world : World P) (step : NumberedStep) (reply : Answered) : Type 0 where
+  pub record IsAnswered (world : World P) (step : NumberedStep) (reply : NumberedAnswer) : Type 0 where
     pub line : reply.line ≡ step.line
     pub answer : IsTrue (is_no_step reply.answer) ⊎ (reply.answer ≡ (next sim world step.step).answer)
 
   -- steps may be answered so, one after the other, from one world on to another
-  abbrev pub AreAnswered : World P → List NumberedStep → List Answered → World P → Type 0
+  abbrev pub AreAnswered : World P → List NumberedStep → List NumberedAnswer → World P → Type 0
   AreAnswered world [] [] end = end ≡ world
   AreAnswered world (step ∷ steps) (reply ∷ replies) end =
       IsAnswered world step reply × AreAnswered (world_after world step.step reply.answer) steps replies end
@@ -37,25 +37,25 @@ module _ {S P : Type 0} (sim : Simulation S P) where
   AreAnswered world (step ∷ steps) [] end = ⊥
 
   -- the steps that were taken: those whose answer stands for a step
-  abbrev pub steps_taken : List NumberedStep → List Answered → List Step
+  abbrev pub steps_taken : List NumberedStep → List NumberedAnswer → List Step
   steps_taken (step ∷ steps) (reply ∷ replies) =
       if is_no_step reply.answer then steps_taken steps replies else step.step ∷ steps_taken steps replies
   steps_taken _ _ = []
 
   -- the output of a replay, with a version of the text of records, that was answered so and ended in this world
-  abbrev pub output_of : Version → List Answered → World P → List ℕ
+  abbrev pub output_of : Version → List NumberedAnswer → World P → List ℕ
   output_of version replies end = replay_text version replies end.board.announced (book_floor sim.end end.book) (least sim.end end) (book_records sim.end end.book)
 
   -- a text may be the output of a replay of these steps from the opening world with these first serials
   pub record IsOutput (version : Version) (serial : ℕ) (steps : List NumberedStep) (text : List ℕ) : Type 0 where
-    pub replies : List Answered
+    pub replies : List NumberedAnswer
     pub end : World P
     pub answered : AreAnswered (opening_world sim serial) steps replies end
     pub output : text ≡ output_of version replies end
 
   -- what holds of steps that were answered so: the world at the end is that after the steps taken; and where each answer
   -- stands for a step, all steps were taken, and the answers are theirs
-  pub record AreRightlyAnswered (world : World P) (steps : List NumberedStep) (replies : List Answered) (end : World P) : Type 0 where
+  pub record AreRightlyAnswered (world : World P) (steps : List NumberedStep) (replies : List NumberedAnswer) (end : World P) : Type 0 where
     pub taken : end ≡ run sim world (steps_taken steps replies)
     pub all : AllByRecursion (λ reply. is_no_step reply.answer ≡ false) replies → end ≡ run sim world (map (λ step. step.step) steps)
     pub replied : AllByRecursion (λ reply. is_no_step reply.answer ≡ false) replies

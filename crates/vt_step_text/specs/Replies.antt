@@ -28,12 +28,12 @@ abbrev pub reply_text : ℕ → Result Reply Fault → List ℕ
 reply_text line answer = decimal line ++ (codes " " ++ (answer_text answer ++ 10 ∷ []))
 
 -- the answer to the step of a line
-pub record Answered : Type 0 where
+pub record NumberedAnswer : Type 0 where
   pub line : ℕ
   pub answer : Result Reply Fault
 
 -- a line for each answer, in order
-abbrev pub replies_text : List Answered → List ℕ
+abbrev pub replies_text : List NumberedAnswer → List ℕ
 replies_text replies = flat_map (λ reply. reply_text reply.line reply.answer) replies
 
 -- a line of a word and a time
@@ -54,5 +54,5 @@ abbrev pub state_text : Version → Time → Time → Time → List Record → L
 state_text version announced floor least records = shown_text announced floor least (length records) ++ records_text version records
 
 -- the output of a replay: a line for each answer, and then what the world shows
-abbrev pub replay_text : Version → List Answered → Time → Time → Time → List Record → List ℕ
+abbrev pub replay_text : Version → List NumberedAnswer → Time → Time → Time → List Record → List ℕ
 replay_text version replies announced floor least records = replies_text replies ++ state_text version announced floor least records

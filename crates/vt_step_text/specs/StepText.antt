@@ -8,8 +8,8 @@ use Rattle.vt_step_text.specs.declared.reading.NumberedStep.{NumberedStep}
 use Rattle.vt_step_text.specs.Words.{words_of, step_said}
 
 -- the lines of a text, each of which a newline (10) ends, and last what stands behind the last newline
-abbrev pub lines_of : List ℕ → List (List ℕ)
-lines_of text = slice_split (λ byte. byte == 10) text
+abbrev pub text_lines : List ℕ → List (List ℕ)
+text_lines text = slice_split (λ byte. byte == 10) text
 
 -- a line that is passed over: an empty one, or one that begins with `#` (35)
 abbrev pub is_passed_over : List ℕ → Bool
@@ -40,10 +40,10 @@ module _ (lps workers : ℕ) where
 
   -- the steps of a text, or the number of its first bad line. Lines are counted from 1
   abbrev pub steps_of : List ℕ → Result (List NumberedStep) ℕ
-  steps_of text = steps_from 1 (lines_of text)
+  steps_of text = steps_from 1 (text_lines text)
 
 -- a text is refused with this fault: memory was refused, or the fault names the first bad line
-abbrev pub IsRefusedAs : Result (List NumberedStep) ℕ → Fault → Type 0
-IsRefusedAs said Memory = ⊤
-IsRefusedAs said (BadStep line) = said ≡ Err line
-IsRefusedAs said _ = ⊥
+abbrev pub IsStepTextRefusal : Result (List NumberedStep) ℕ → Fault → Type 0
+IsStepTextRefusal said Memory = ⊤
+IsStepTextRefusal said (BadStep line) = said ≡ Err line
+IsStepTextRefusal said _ = ⊥

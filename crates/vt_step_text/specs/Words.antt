@@ -5,7 +5,7 @@ use Rattle.std.specs.Str.{bytes_eq}
 use Rattle.vt_key.specs.declared.order.Stamp.{Stamp}
 use Rattle.vt_steps.specs.declared.step.Step.{Step}
 use Rattle.vt_steps.specs.declared.step.Step.TheVariants.{Execute, Undo, Cancel, Home, Send, Fetch, Accept, Cut, Report, Commit, Close}
-use Rattle.vt_text.specs.Numbers.{number_of}
+use Rattle.vt_text.specs.Numbers.{number_said}
 
 -- the words of a line: the parts between its spaces (32). So two spaces in a row, a first one and a last one make an empty
 -- word, which says nothing
@@ -18,7 +18,7 @@ if_below limit n = if nat_lt n limit then Some n else None
 
 -- the number that a word is, where it is one and below a limit
 abbrev pub number_below : ℕ → List ℕ → Option ℕ
-number_below limit word = option_and_then (if_below limit) (number_of word)
+number_below limit word = option_and_then (if_below limit) (number_said word)
 
 -- what is made of two values, where both are there
 abbrev pub of_both : {A B C : Type 0} → (A → B → C) → Option A → Option B → Option C
@@ -49,14 +49,14 @@ step_with_one lps workers name a =
 unfoldable pub step_with_two : ℕ → List ℕ → List ℕ → List ℕ → Option Step
 step_with_two workers name a b =
     if bytes_eq name (codes "send") then of_both Send (number_below workers a) (number_below workers b)
-    else if bytes_eq name (codes "accept") then of_both Accept (number_below workers a) (number_of b)
+    else if bytes_eq name (codes "accept") then of_both Accept (number_below workers a) (number_said b)
     else None
 
 -- the step that a word and three arguments say: a process, and a stamp by its worker and its serial
 unfoldable pub step_with_three : ℕ → ℕ → List ℕ → List ℕ → List ℕ → List ℕ → Option Step
 step_with_three lps workers name a b c =
     if bytes_eq name (codes "cancel")
-    then of_both Cancel (number_below lps a) (of_both stamp_of (number_below workers b) (number_of c))
+    then of_both Cancel (number_below lps a) (of_both stamp_of (number_below workers b) (number_said c))
     else None
 
 -- the step that words say, of a run with so many logical processes and workers

@@ -7,7 +7,7 @@ ghost use Rattle.vt_model.specs.Simulation.{Simulation};
 ghost use Rattle.vt_steps.specs.World.{World};
 ghost use Rattle.vt_steps.specs.declared.step.Step.{Step};
 ghost use Rattle.vt_step_text.specs.declared.reading.NumberedStep.{NumberedStep};
-ghost use Rattle.vt_step_text.specs.Replies.{Answered};
+ghost use Rattle.vt_step_text.specs.Replies.{NumberedAnswer};
 ghost use Rattle.vt_step_text.specs.Replays.{AreAnswered, AreRightlyAnswered};
 ghost use Rattle.vt_step_text.specs.StepLines.{IsOf, numbered_from, text_of_steps};
 ghost use Rattle.vt_step_text.specs.StepText.{steps_of};
@@ -17,7 +17,7 @@ ghost use Rattle.vt_step_text.specs.StepText.{steps_of};
 /// definitions.
 pub fn replies_are_those_of_the_steps<S, P>()
     ghost sim: { Simulation S P }
-    ensures { (world end : World P) (steps : List NumberedStep) (replies : List Answered) → AreAnswered sim world steps replies end →
+    ensures { (world end : World P) (steps : List NumberedStep) (replies : List NumberedAnswer) → AreAnswered sim world steps replies end →
         AreRightlyAnswered sim world steps replies end }
 {}
 

@@ -1,7 +1,7 @@
 //! Reading a step text.
 
 ghost use Rattle.std.specs.Prelude.{◌≡◌, ℕ, IfOk, IfErr, Ok};
-ghost use Rattle.vt_step_text.specs.StepText.{is_passed_over, steps_of, IsRefusedAs};
+ghost use Rattle.vt_step_text.specs.StepText.{is_passed_over, steps_of, IsStepTextRefusal};
 
 use crate::lines::cut_once;
 use crate::words::step_of_line;
@@ -39,7 +39,7 @@ pub fn read_steps(
     workers: u32,
 ) -> Result<Vec<NumberedStep>, Fault>
     ensures ok { IfOk result (λ steps. steps_of lps workers text.now ≡ Ok steps.items) }
-    ensures err { IfErr result (IsRefusedAs (steps_of lps workers text.now)) }
+    ensures err { IfErr result (IsStepTextRefusal (steps_of lps workers text.now)) }
 {
     let mut steps = Vec::new(alloc);
     let mut line = 1u64;

@@ -15,8 +15,8 @@ use Rattle.vt_options.specs.Line.{given_by}
 use Rattle.vt_options.specs.Own.{Models, app_for, line_for, GiveModel, GiveValues}
 use Rattle.vt_options.specs.Requests.{AskHelpOf, IsRefusedAsOf, IsRefusedByOf}
 use Rattle.vt_options.specs.Table.{Given, NumberOption, value_in}
-use Rattle.vt_tasks.specs.Tasks.{IsCounted, IsTaskDone, TaskEnds}
-use Rattle.vt_tasks.specs.Outcomes.{IsAsked, EndsWith}
+use Rattle.vt_tasks.specs.Tasks.{BeginsWithinLimit, IsTaskDone, TaskEnds}
+use Rattle.vt_tasks.specs.Outcomes.{IsAskedByLine, EndsWith}
 use Rattle.vt_tasks.specs.Programs.{IsTaskOf}
 use Rattle.vt_tasks.specs.Models.{AnyHandlers, CarriesOut, program_of, IsDoneFor, EndsFor, IsReadFor, AskBadLineFor}
 use Rattle.vt_tasks.proofs.OutcomeLemmas as outcomes
@@ -32,7 +32,7 @@ module _ (name : Text) (models : Models) (words : List Text) where
   task_given (Replay s) k vs asked = asked.options.model
 
   -- serials begin within their limit
-  pub task_counted : (task : Task) (k : ℕ) (vs : List ℕ) → AskTaskWith name models words task k vs → IsCounted task
+  pub task_counted : (task : Task) (k : ℕ) (vs : List ℕ) → AskTaskWith name models words task k vs → BeginsWithinLimit task
   task_counted (Run s) k vs asked = tt
   task_counted (Replay s) k vs asked = outcomes.serial_counted (given_by (app_for name models) words) s.serial asked.options.settings.serial
 
@@ -44,7 +44,7 @@ module _ (name : Text) (models : Models) (words : List Text) where
 
 module _ {C : Type 0} (meaning : C → AnyHandlers) (Makes : Chosen → Option C → Type 0) (name : Text) (models : Models) where
   -- what the words ask for is what the command line says
-  is_asked : IsAsked (program_of meaning Makes name models)
+  is_asked : IsAskedByLine (program_of meaning Makes name models)
   is_asked = record {
     run = λ words r asked. (asked.asked.run, asked.asked.options.all_good);
     replay = λ words r asked. (asked.asked.replay, asked.asked.options.all_good);

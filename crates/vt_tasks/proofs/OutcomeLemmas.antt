@@ -12,7 +12,7 @@ use Rattle.vt_key.specs.declared.fault.Fault.TheVariants.{Memory, NotLawful, Bus
 use Rattle.vt_key.specs.declared.limits.TheConstants.{MAX_COUNT}
 use Rattle.vt_step_text.specs.declared.reading.NumberedStep.{NumberedStep}
 use Rattle.vt_step_text.specs.StepText.{steps_of}
-use Rattle.vt_text.specs.Numbers.{number_of}
+use Rattle.vt_text.specs.Numbers.{number_said}
 use Rattle.vt_model.specs.Settings.{is_between}
 use Rattle.vt_options.specs.declared.choices.Synch.{Synch}
 use Rattle.vt_options.specs.declared.choices.Synch.TheVariants.{Sequential, Optimistic}
@@ -21,7 +21,7 @@ use Rattle.vt_options.specs.Table.{Given, if_between, number_in, value_in}
 use Rattle.vt_options.specs.Requests.{AreBy, AskHelpOf, IsRefusedAsOf}
 use Rattle.vt_tasks.specs.Runs.{StopsRun, StopsWork, StopsBy}
 use Rattle.vt_tasks.specs.Replays.{GivesSteps, EndsReplayBy}
-use Rattle.vt_tasks.specs.Outcomes.{Program, IsAsked, IsDoneBy, EndsWith, AskBadLine}
+use Rattle.vt_tasks.specs.Outcomes.{Program, IsAskedByLine, IsDoneBy, EndsWith, AskBadLine}
 
 module _ (p : Program) (words : List Text) (r : p.Run) (input old new : Option (List ℕ)) (asked : p.AskRun words r) where
   -- a sequential run that was refused ends the program so
@@ -79,7 +79,7 @@ none_among : (k : ErrorKind) (kinds : Kinds) → kinds ≡ [] → IsAmong k kind
 none_among k [] e h = h
 none_among k (x ∷ xs) e h = absurd cc
 
-module _ (p : Program) (is : IsAsked p) (words : List Text) where
+module _ (p : Program) (is : IsAskedByLine p) (words : List Text) where
   -- words that ask for a run are not refused
   not_refused : (r : p.Run) (name : Text) → p.AskRun words r → IsRefusedAsOf p.line words name → ⊥
   not_refused r name asked (inl h) =
@@ -134,7 +134,7 @@ between (Some m) n e =
 
 counted : (text : Option (List ℕ)) (n : ℕ) → number_in 0 MAX_COUNT 0 text ≡ Some n → n ≤ MAX_COUNT
 counted None n e = let z : 0 ≡ n = cc in omega (arith, z)
-counted (Some text) n e = between (number_of text) n e
+counted (Some text) n e = between (number_said text) n e
 
 -- serials begin within their limit
 pub serial_counted : (given : Given) (n : ℕ) → value_in given Table.serial ≡ Some n → n ≤ MAX_COUNT
@@ -142,7 +142,7 @@ serial_counted given n e = counted (given (codes "serial")) n e
 
 -- ---- a bad line
 
-module _ (p : Program) (is : IsAsked p) (words : List Text) (input : Option (List ℕ)) (bad : AskBadLine p words input) where
+module _ (p : Program) (is : IsAskedByLine p) (words : List Text) (input : Option (List ℕ)) (bad : AskBadLine p words input) where
   told : (text : List ℕ) → IfSome input (λ bytes. text ≡ bytes) → text ≡ bad.text
   told text h = subst (λ (i : Option (List ℕ)). IfSome i (λ bytes. text ≡ bytes)) bad.told h
 

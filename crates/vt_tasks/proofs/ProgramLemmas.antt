@@ -12,19 +12,19 @@ use Rattle.vt_options.specs.declared.own.Chosen.{Chosen}
 use Rattle.vt_options.specs.Own.{Models, app_for, line_for}
 use Rattle.vt_options.specs.Requests.{AskHelpOf, IsRefusedAsOf}
 use Rattle.vt_tasks.specs.Outcomes.{BeginsHelp, EndsWith}
-use Rattle.vt_tasks.specs.Programs.{CallAnswers, IsAnswered, IsDoneByCall, EndsByCall, IsReadByCall}
+use Rattle.vt_tasks.specs.Programs.{CallAnswers, IsTaskAnswered, IsDoneByCall, EndsByCall, IsReadByCall}
 use Rattle.vt_tasks.specs.Models.{AnyHandlers, CarriesOut, program_of, IsDoneFor, EndsFor, IsReadFor, AskBadLineFor}
 use Rattle.vt_tasks.specs.Refusals.{status_of}
 use Rattle.vt_tasks.proofs.ModelsLemmas as models
 
 module _ (name : Text) (table : Models) (words : List Text) (Answers : Chosen → Task → Result ⊤ Fault → Type 0) (old new : Option (List ℕ)) where
   -- a task that was done is what the words ask for
-  pub answer_done : (answer : Result ⊤ Fault) → IsAnswered name table words Answers answer → OnOk answer (IsDoneByCall name table words Answers old new)
+  pub answer_done : (answer : Result ⊤ Fault) → IsTaskAnswered name table words Answers answer → OnOk answer (IsDoneByCall name table words Answers old new)
   answer_done (Ok done) h = inr h
   answer_done (Err fault) h = tt
 
   -- one that was refused ends the program so
-  pub answer_ends : (answer : Result ⊤ Fault) → IsAnswered name table words Answers answer → IfErr answer (λ fault. EndsByCall name table words Answers fault old new)
+  pub answer_ends : (answer : Result ⊤ Fault) → IsTaskAnswered name table words Answers answer → IfErr answer (λ fault. EndsByCall name table words Answers fault old new)
   answer_ends (Ok done) h = tt
   answer_ends (Err fault) h = inr (inr h)
 

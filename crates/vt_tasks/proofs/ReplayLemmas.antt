@@ -20,7 +20,7 @@ use Rattle.vt_text.specs.Records.{records_text}
 use Rattle.vt_text.specs.Writing.{AppendsAllButHeld, AppendsBeginning}
 use Rattle.vt_text.proofs.TextLemmas.{pushed, written, flush_fails, of_longer}
 use Rattle.vt_step_text.specs.declared.reading.NumberedStep.{NumberedStep}
-use Rattle.vt_step_text.specs.Replies.{Answered, replies_text, shown_text, state_text}
+use Rattle.vt_step_text.specs.Replies.{NumberedAnswer, replies_text, shown_text, state_text}
 use Rattle.vt_step_text.specs.Replays.{steps_taken}
 use Rattle.vt_step_text.proofs.ReplayLemmas.{rightly_answered}
 use Rattle.vt_tasks.specs.Replays.{AreReplies, IsReplayText, IsRepliesText, Writes, Begins, StopsReplay}
@@ -68,7 +68,7 @@ state_of version end world = state_text version world.board.announced (book_floo
 abbrev AreSequential : {S P : Type 0} → Simulation S P → World P → Type 0
 AreSequential sim world = book_records sim.end world.book ≡ seq_records sim (book_floor sim.end world.book)
 
-are_sequential : {S P : Type 0} (sim : Simulation S P) → IsLawful sim → (serial : ℕ) (steps : List NumberedStep) (replies : List Answered) (end : World P) → AreReplies sim (opening_world sim serial) steps replies end → AreSequential sim end
+are_sequential : {S P : Type 0} (sim : Simulation S P) → IsLawful sim → (serial : ℕ) (steps : List NumberedStep) (replies : List NumberedAnswer) (end : World P) → AreReplies sim (opening_world sim serial) steps replies end → AreSequential sim end
 are_sequential sim lawful serial steps replies end h =
     let taken = steps_taken sim steps replies in
     subst (λ (w : World _). AreSequential sim w) (sym (rightly_answered sim (opening_world sim serial) end steps replies h.answered).taken)
@@ -81,7 +81,7 @@ shown_is version sim world records = ap (λ (rs : List Record). state_text versi
 -- ---- a whole replay
 
 module _ (version : Version) {S P : Type 0} (sim : Simulation S P) (serial : ℕ) (steps : List NumberedStep) where
-  right : (replies : List Answered) (end : World P) → AreReplies sim (opening_world sim serial) steps replies end → IsReplayText sim version serial steps (replies_text replies ++ state_of version sim.end end)
+  right : (replies : List NumberedAnswer) (end : World P) → AreReplies sim (opening_world sim serial) steps replies end → IsReplayText sim version serial steps (replies_text replies ++ state_of version sim.end end)
   right replies end h = record {
     output = record { replies = replies; end = end; answered = h.answered; output = refl };
     exact = h.exact;

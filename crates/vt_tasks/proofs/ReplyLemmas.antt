@@ -19,7 +19,7 @@ use Rattle.vt_steps.specs.Next.{Outcome, next}
 use Rattle.vt_steps.proofs.steps.Refusals.{refusals}
 use Rattle.vt_world.specs.Calls.{RunWorld, IsStepOf}
 use Rattle.vt_step_text.specs.declared.reading.NumberedStep.{NumberedStep}
-use Rattle.vt_step_text.specs.Replies.{Answered, reply_text, replies_text}
+use Rattle.vt_step_text.specs.Replies.{NumberedAnswer, reply_text, replies_text}
 use Rattle.vt_step_text.specs.Replays.{is_no_step, world_after, AreAnswered}
 use Rattle.vt_tasks.specs.Replays.{IsExact, AreExact, AreReplies}
 use Rattle.vt_tasks.specs.Replying.{PutsReplies, StopsReplies}
@@ -29,7 +29,7 @@ use Rattle.std.proofs.KnownBytes.{Appends-nil}
 use Rattle.std.proofs.lemmas.Bool.{cases_lt}
 
 -- the answer of a line
-abbrev pub answered : ℕ → Result Reply Fault → Answered
+abbrev pub answered : ℕ → Result Reply Fault → NumberedAnswer
 answered line answer = record { line = line; answer = answer }
 
 -- ---- whether a counter would pass its limit
@@ -72,20 +72,20 @@ module _ {S P : Type 0} (sim : Simulation S P) where
   pub no_replies : (world : World P) → AreReplies sim world [] [] world
   no_replies world = record { answered = refl; exact = tt }
 
-  answered-append : (world mid end : World P) (xs ys : List NumberedStep) (rs qs : List Answered) → AreAnswered sim world xs rs mid → AreAnswered sim mid ys qs end → AreAnswered sim world (xs ++ ys) (rs ++ qs) end
+  answered-append : (world mid end : World P) (xs ys : List NumberedStep) (rs qs : List NumberedAnswer) → AreAnswered sim world xs rs mid → AreAnswered sim mid ys qs end → AreAnswered sim world (xs ++ ys) (rs ++ qs) end
   answered-append world mid end [] ys [] qs h k = subst (λ (w : World P). AreAnswered sim w ys qs end) h k
   answered-append world mid end [] ys (r ∷ rs) qs h k = absurd h
   answered-append world mid end (x ∷ xs) ys [] qs h k = absurd h
   answered-append world mid end (x ∷ xs) ys (r ∷ rs) qs h k = (h.0, answered-append (world_after sim world x.step r.answer) mid end xs ys rs qs h.1 k)
 
-  exact-append : (world mid : World P) (xs ys : List NumberedStep) (rs qs : List Answered) → AreAnswered sim world xs rs mid → AreExact sim world xs rs → AreExact sim mid ys qs → AreExact sim world (xs ++ ys) (rs ++ qs)
+  exact-append : (world mid : World P) (xs ys : List NumberedStep) (rs qs : List NumberedAnswer) → AreAnswered sim world xs rs mid → AreExact sim world xs rs → AreExact sim mid ys qs → AreExact sim world (xs ++ ys) (rs ++ qs)
   exact-append world mid [] ys [] qs h s k = subst (λ (w : World P). AreExact sim w ys qs) h k
   exact-append world mid [] ys (r ∷ rs) qs h s k = absurd h
   exact-append world mid (x ∷ xs) ys [] qs h s k = absurd h
   exact-append world mid (x ∷ xs) ys (r ∷ rs) qs h s k = (s.0, exact-append (world_after sim world x.step r.answer) mid xs ys rs qs h.1 s.1 k)
 
   -- some steps and then more
-  pub more_replies : (world mid end : World P) (xs ys : List NumberedStep) (rs qs : List Answered) → AreReplies sim world xs rs mid → AreReplies sim mid ys qs end → AreReplies sim world (xs ++ ys) (rs ++ qs) end
+  pub more_replies : (world mid end : World P) (xs ys : List NumberedStep) (rs qs : List NumberedAnswer) → AreReplies sim world xs rs mid → AreReplies sim mid ys qs end → AreReplies sim world (xs ++ ys) (rs ++ qs) end
   more_replies world mid end xs ys rs qs h k = record {
     answered = answered-append world mid end xs ys rs qs h.answered k.answered;
     exact = exact-append world mid xs ys rs qs h.answered h.exact k.exact;
@@ -101,7 +101,7 @@ module _ {S P : Type 0} (sim : Simulation S P) where
 
   -- answers that steps may have
   pub record HaveReplies (world : World P) (steps : List NumberedStep) : Type 0 where
-    pub replies : List Answered
+    pub replies : List NumberedAnswer
     pub end : World P
     pub are : AreReplies sim world steps replies end
 
@@ -178,9 +178,9 @@ step_there meaning step answer first old new model config is =
     subst (λ (s : Simulation _ _). IsStepOf s step old.world new.world answer) (λ i. simulation_of (meaning (model i)) (config i)) is
 
 -- the lines of one answer more
-pub one_more_line : (replies : List Answered) (line : ℕ) (answer : Result Reply Fault) → replies_text (replies ++ answered line answer ∷ []) ≡ replies_text replies ++ reply_text line answer
+pub one_more_line : (replies : List NumberedAnswer) (line : ℕ) (answer : Result Reply Fault) → replies_text (replies ++ answered line answer ∷ []) ≡ replies_text replies ++ reply_text line answer
 one_more_line replies line answer =
-    flat_map-append (λ (r : Answered). reply_text r.line r.answer) replies (answered line answer ∷ []) ∙ ap (λ l. replies_text replies ++ l) (append-nil (reply_text line answer))
+    flat_map-append (λ (r : NumberedAnswer). reply_text r.line r.answer) replies (answered line answer ∷ []) ∙ ap (λ l. replies_text replies ++ l) (append-nil (reply_text line answer))
 
 -- ---- the lines of answers, as they are put
 
@@ -194,16 +194,16 @@ module _ {S P : Type 0} (sim : Simulation S P) where
   }
 
   module _ (steps : List NumberedStep) (i : ℕ) (d : NumberedStep) (within : i < length steps) (answer : Result Reply Fault) (from old new : World P) (is : IsStepOf sim (get_or steps i d).step old new answer) where
-    abbrev more_lines : List Answered → List Answered
+    abbrev more_lines : List NumberedAnswer → List NumberedAnswer
     more_lines rs = rs ++ answered (get_or steps i d).line answer ∷ []
 
     abbrev line : List ℕ
     line = reply_text (get_or steps i d).line answer
 
-    lines_on : (held : List ℕ) (rs : List Answered) → (held ++ replies_text rs) ++ line ≡ held ++ replies_text (more_lines rs)
+    lines_on : (held : List ℕ) (rs : List NumberedAnswer) → (held ++ replies_text rs) ++ line ≡ held ++ replies_text (more_lines rs)
     lines_on held rs = append_assoc held (replies_text rs) line ∙ ap (λ l. held ++ l) (sym (one_more_line rs (get_or steps i d).line answer))
 
-    more_are : (rs : List Answered) → AreReplies sim from (take i steps) rs old → AreReplies sim from (take (i + 1) steps) (more_lines rs) new
+    more_are : (rs : List NumberedAnswer) → AreReplies sim from (take i steps) rs old → AreReplies sim from (take (i + 1) steps) (more_lines rs) new
     more_are rs are =
         let step = get_or steps i d in
         subst (λ (xs : List NumberedStep). AreReplies sim from xs (more_lines rs) new) (sym (take_more steps i d within))
@@ -229,6 +229,6 @@ module _ {S P : Type 0} (sim : Simulation S P) where
             are = subst (λ (xs : List NumberedStep). AreReplies sim from xs (so_far ++ rest.replies) rest.end) (take-append-drop (i + 1) steps)
                 (more_replies sim from new rest.end (take (i + 1) steps) (drop (i + 1) steps) so_far rest.replies (more_are h.replies h.are) rest.are);
             begun = subst (λ (l : List ℕ). AppendsBeginning before after l)
-                (ap (λ l. l ++ replies_text rest.replies) (lines_on held h.replies) ∙ append_assoc held (replies_text so_far) (replies_text rest.replies) ∙ ap (λ l. held ++ l) (sym (flat_map-append (λ (r : Answered). reply_text r.line r.answer) so_far rest.replies)))
+                (ap (λ l. l ++ replies_text rest.replies) (lines_on held h.replies) ∙ append_assoc held (replies_text so_far) (replies_text rest.replies) ∙ ap (λ l. held ++ l) (sym (flat_map-append (λ (r : NumberedAnswer). reply_text r.line r.answer) so_far rest.replies)))
                 (of_longer before after ((held ++ replies_text h.replies) ++ line) (replies_text rest.replies) (put_fails before now after held1 (held ++ replies_text h.replies) line h.put k));
           }

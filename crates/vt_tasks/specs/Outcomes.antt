@@ -35,7 +35,7 @@ pub record Program : Type 1 where
   pub OpensLate : Replay → Type 0
 
 -- what the words ask for is what its command line says
-pub record IsAsked (p : Program) : Type 0 where
+pub record IsAskedByLine (p : Program) : Type 0 where
   pub run : (words : List Text) (r : p.Run) → p.AskRun words r → AreBy p.line.app (codes "run") words × (p.line.bad_of_run (given_by p.line.app words) ≡ None)
   pub replay : (words : List Text) (r : p.Replay) → p.AskReplay words r → AreBy p.line.app (codes "replay") words × (p.line.bad_of_replay (given_by p.line.app words) ≡ None)
   pub config : (words : List Text) (r : p.Replay) → p.AskReplay words r → GiveConfig (given_by p.line.app words) (p.config_of r)

@@ -11,7 +11,7 @@ use Rattle.vt_options.specs.declared.own.Chosen.{Chosen}
 use Rattle.vt_options.specs.Asked.{AskTaskWith}
 use Rattle.vt_options.specs.Own.{Models, AreInRange, app_for, line_for}
 use Rattle.vt_options.specs.Requests.{IsRefusedByOf}
-use Rattle.vt_tasks.specs.Tasks.{IsCounted}
+use Rattle.vt_tasks.specs.Tasks.{BeginsWithinLimit}
 use Rattle.vt_tasks.specs.Outcomes.{WritesHelp, BeginsHelp}
 
 -- a call of f for this choice and this task may give this answer, and take a reader and a writer from one state to the other
@@ -36,14 +36,14 @@ module _ (name : Text) (models : Models) (words : List Text) where
   -- its range
   pub record IsTaskOf (chosen : Chosen) (task : Task) : Type 0 where
     pub asked : AskTaskWith name models words task chosen.model chosen.values.items
-    pub counted : IsCounted task
+    pub counted : BeginsWithinLimit task
     pub complete : length chosen.values.items ≡ length (get_or models.tables chosen.model [])
     pub within : AreInRange (get_or models.tables chosen.model []) chosen.values.items
 
   -- what may be answered to a task with a choice
   module _ (Answers : Chosen → Task → Result ⊤ Fault → Type 0) where
     -- the words ask for a task, to which this was answered
-    pub record IsAnswered (answer : Result ⊤ Fault) : Type 0 where
+    pub record IsTaskAnswered (answer : Result ⊤ Fault) : Type 0 where
       pub chosen : Chosen
       pub task : Task
       pub asked : AskTaskWith name models words task chosen.model chosen.values.items
@@ -51,13 +51,13 @@ module _ (name : Text) (models : Models) (words : List Text) where
 
     -- what the words ask for was done
     abbrev pub IsDoneByCall : Option (List ℕ) → Option (List ℕ) → Type 0
-    IsDoneByCall old new = WritesHelp (app_for name models) words old new ⊎ IsAnswered (Ok tt)
+    IsDoneByCall old new = WritesHelp (app_for name models) words old new ⊎ IsTaskAnswered (Ok tt)
 
     -- what was done where it ended with a refusal: of the words, with nothing written; of help, a beginning of which was written; or
     -- of the task
     abbrev pub EndsByCall : Fault → Option (List ℕ) → Option (List ℕ) → Type 0
-    EndsByCall fault old new = (IsRefusedByOf (line_for name models) words fault × Keeps old new) ⊎ ((fault ≡ Output) × BeginsHelp (app_for name models) words old new) ⊎ IsAnswered (Err fault)
+    EndsByCall fault old new = (IsRefusedByOf (line_for name models) words fault × Keeps old new) ⊎ ((fault ≡ Output) × BeginsHelp (app_for name models) words old new) ⊎ IsTaskAnswered (Err fault)
 
     -- the reader was kept, or the words ask for a task, to which something was answered
     abbrev pub IsReadByCall : Option (List ℕ) → Option (List ℕ) → Type 0
-    IsReadByCall old new = Keeps old new ⊎ ((answer : Result ⊤ Fault) × IsAnswered answer)
+    IsReadByCall old new = Keeps old new ⊎ ((answer : Result ⊤ Fault) × IsTaskAnswered answer)

@@ -16,7 +16,7 @@ use Rattle.vt_text.specs.Writing.{AppendsBeginning}
 use Rattle.vt_step_text.specs.declared.limits.TheConstants.{MAX_INPUT}
 use Rattle.vt_step_text.specs.declared.reading.NumberedStep.{NumberedStep}
 use Rattle.vt_step_text.specs.StepText.{steps_of}
-use Rattle.vt_step_text.specs.Replies.{Answered, replies_text}
+use Rattle.vt_step_text.specs.Replies.{NumberedAnswer, replies_text}
 use Rattle.vt_step_text.specs.Replays.{is_no_step, world_after, AreAnswered, IsOutput}
 
 -- ---- the output
@@ -29,13 +29,13 @@ module _ {S P : Type 0} (sim : Simulation S P) where
   IsExact world step (Err fault) = IsTrue (is_no_step (Err fault)) → IsSpent sim step world fault
 
   -- each answer is exact: it is `refused 5` exactly if the step is lawful and would take a counter past its limit
-  abbrev pub AreExact : World P → List NumberedStep → List Answered → Type 0
+  abbrev pub AreExact : World P → List NumberedStep → List NumberedAnswer → Type 0
   AreExact world (step ∷ steps) (reply ∷ replies) =
       IsExact world step.step reply.answer × AreExact (world_after sim world step.step reply.answer) steps replies
   AreExact world _ _ = ⊤
 
   -- the steps of lines are answered so by a kernel that does each step that it can, from one world on to another
-  pub record AreReplies (world : World P) (steps : List NumberedStep) (replies : List Answered) (end : World P) : Type 0 where
+  pub record AreReplies (world : World P) (steps : List NumberedStep) (replies : List NumberedAnswer) (end : World P) : Type 0 where
     pub answered : AreAnswered sim world steps replies end
     pub exact : AreExact world steps replies
 
@@ -47,7 +47,7 @@ module _ {S P : Type 0} (sim : Simulation S P) where
 
   -- a text may be the lines of the answers in such an output, without what the world shows
   pub record IsRepliesText (serial : ℕ) (steps : List NumberedStep) (text : List ℕ) : Type 0 where
-    pub replies : List Answered
+    pub replies : List NumberedAnswer
     pub end : World P
     pub are : AreReplies (opening_world sim serial) steps replies end
     pub lines : text ≡ replies_text replies
@@ -102,11 +102,11 @@ pub record GivesBadLine (config : Config) (remaining : Option (List ℕ)) (line 
   pub said : steps_of config.lps config.workers text ≡ Err line
 
 -- why no steps were read
-abbrev pub RefusesInput : Config → Option (List ℕ) → Fault → Type 0
-RefusesInput config remaining Memory = ⊤
-RefusesInput config remaining (BadOption name) = name.now ≡ codes "input"
-RefusesInput config remaining (BadStep line) = GivesBadLine config remaining line
-RefusesInput config remaining _ = ⊥
+abbrev pub IsInputRefusal : Config → Option (List ℕ) → Fault → Type 0
+IsInputRefusal config remaining Memory = ⊤
+IsInputRefusal config remaining (BadOption name) = name.now ≡ codes "input"
+IsInputRefusal config remaining (BadStep line) = GivesBadLine config remaining line
+IsInputRefusal config remaining _ = ⊥
 
 -- ---- a whole replay, with a config, of a model for which these are the right outputs and lines of answers
 

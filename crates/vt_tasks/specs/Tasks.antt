@@ -12,9 +12,9 @@ use Rattle.vt_tasks.specs.Runs.{run_text, text_below, PassesInRun, StopsBy}
 use Rattle.vt_tasks.specs.Replays.{IsReplayOf, AreRepliesOf, ReplaysBy, EndsReplayBy}
 
 -- the serials of a replay begin within their limit
-abbrev pub IsCounted : Task → Type 0
-IsCounted (Run s) = ⊤
-IsCounted (Replay s) = s.serial ≤ MAX_COUNT
+abbrev pub BeginsWithinLimit : Task → Type 0
+BeginsWithinLimit (Run s) = ⊤
+BeginsWithinLimit (Replay s) = s.serial ≤ MAX_COUNT
 
 -- a run reads nothing
 abbrev pub KeepsInput : Task → Option (List ℕ) → Option (List ℕ) → Type 0

@@ -7,7 +7,7 @@ ghost use Rattle.vt_key.specs.declared.fault.Fault.{Fault};
 ghost use Rattle.vt_model.specs.Simulation.{simulation_of};
 ghost use Rattle.vt_text.specs.Writing.{AppendsBeginning};
 ghost use Rattle.vt_world.specs.Answers.{PassesAtStart};
-ghost use Rattle.vt_tasks.specs.Replays.{GivesSteps, RefusesInput, IsReplayOf, AreRepliesOf, Writes, StopsReplay, ReplaysBy, EndsReplayBy};
+ghost use Rattle.vt_tasks.specs.Replays.{GivesSteps, IsInputRefusal, IsReplayOf, AreRepliesOf, Writes, StopsReplay, ReplaysBy, EndsReplayBy};
 ghost use Rattle.vt_tasks.specs.Replying.{PutsReplies, StopsReplies, shown_of};
 
 use std::alloc::Global;
@@ -26,7 +26,7 @@ fn read_replay<R: Read>(
     config: Config,
 ) -> Result<Vec<NumberedStep>, Fault>
     ensures ok { IfOk result (λ steps. GivesSteps config (R.remaining reader.old) steps.items) }
-    ensures err { IfErr result (RefusesInput config (R.remaining reader.old)) }
+    ensures err { IfErr result (IsInputRefusal config (R.remaining reader.old)) }
 {
     let text = read_input(alloc, reader)?;
     read_steps(alloc, text.as_slice(), config.lps, config.workers)

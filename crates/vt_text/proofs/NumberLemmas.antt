@@ -9,7 +9,7 @@ use Rattle.std.specs.Fmt.{decimal}
 use Rattle.std.proofs.Common.{rules}
 use Rattle.std.proofs.lemmas.Fmt.{digits_decimal, digits_value-decimal, decimal_nonempty, length-decimal-le}
 use Rattle.std.proofs.lemmas.Str.Parse.{IsNumeralModel, numerals_by_fold}
-use Rattle.vt_text.specs.Numbers.{decimal_value, is_number, number_of}
+use Rattle.vt_text.specs.Numbers.{decimal_value, is_number, number_said}
 
 abbrev more : ℕ → ℕ → ℕ
 more n digit = n * 10 + (digit - 48)
@@ -28,10 +28,10 @@ first_digits xs i h =
     omega (arith, front, whole, rest)
 
 -- a number that is too large is none
-pub too_large : (xs : List ℕ) → 2 ^ 64 ≤ decimal_value xs → number_of xs ≡ None
+pub too_large : (xs : List ℕ) → 2 ^ 64 ≤ decimal_value xs → number_said xs ≡ None
 too_large xs h = rw (le-ltb (decimal_value xs) (2 ^ 64) h, and-false (is_number xs))
 
-pub a_number : (xs : List ℕ) → 0 < length xs → length xs ≤ 20 → list_all is_ascii_digit xs ≡ true → decimal_value xs < 2 ^ 64 → number_of xs ≡ Some (decimal_value xs)
+pub a_number : (xs : List ℕ) → 0 < length xs → length xs ≤ 20 → list_all is_ascii_digit xs ≡ true → decimal_value xs < 2 ^ 64 → number_said xs ≡ Some (decimal_value xs)
 a_number xs some few digits small = rw (lt-ltb 0 (length xs) some, le-leb (length xs) 20 few, digits, lt-ltb _ _ small)
 
 pub not_empty : (xs : List ℕ) → false ≡ (length xs == 0) → 0 < length xs
@@ -43,8 +43,8 @@ pub decimal_model : IsNumeralModel (λ ds. list_all is_ascii_digit ds ≡ true) 
 decimal_model = numerals_by_fold (λ ds. list_all is_ascii_digit ds ≡ true) (search rules) (fold more) (search rules)
 
 -- the digits of a number are read as that number
-pub number_of-decimal : (n : ℕ) → n < 2 ^ 64 → number_of (decimal n) ≡ Some n
-number_of-decimal n h =
+pub number_said-decimal : (n : ℕ) → n < 2 ^ 64 → number_said (decimal n) ≡ Some n
+number_said-decimal n h =
     let value : decimal_value (decimal n) ≡ n = digits_value-decimal decimal_model n h in
     let small : decimal_value (decimal n) < 2 ^ 64 = omega arith in
     a_number (decimal n) (decimal_nonempty n h) (length-decimal-le 20 n (omega arith) (omega arith) h) (digits_decimal decimal_model n h) small ∙ ap Some value

@@ -13,5 +13,5 @@ abbrev pub is_number : List ℕ → Bool
 is_number text = nat_lt 0 (length text) && nat_le (length text) NUMBER_LEN && list_all is_ascii_digit text
 
 -- the number that a text of 1 to 20 decimal digits has, where it is below 2 ^ 64
-abbrev pub number_of : List ℕ → Option ℕ
-number_of text = if is_number text && nat_lt (decimal_value text) (2 ^ 64) then Some (decimal_value text) else None
+abbrev pub number_said : List ℕ → Option ℕ
+number_said text = if is_number text && nat_lt (decimal_value text) (2 ^ 64) then Some (decimal_value text) else None

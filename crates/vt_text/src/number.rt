@@ -2,7 +2,7 @@
 
 ghost use Rattle.std.specs.Prelude.{◌≡◌, ◌^◌, ◌<◌, ℕ, Some};
 ghost use Rattle.std.specs.Fmt.{decimal};
-ghost use Rattle.vt_text.specs.Numbers.{number_of};
+ghost use Rattle.vt_text.specs.Numbers.{number_said};
 
 /// The most digits of a number.
 pub const NUMBER_LEN: usize = 20;
@@ -13,7 +13,7 @@ pub const PRIORITY_LEN: usize = 3;
 /// The number that a text of 1 to 20 decimal digits has, where it is below 2^64; else `None`. Nothing but digits is taken:
 /// no sign, no space, no separator.
 pub fn read_number(text: &[u8]) -> Option<u64>
-    ensures { result ≡ number_of text.now }
+    ensures { result ≡ number_said text.now }
 {
     if text.is_empty() || text.len() > NUMBER_LEN {
         return None;
@@ -30,5 +30,5 @@ pub fn read_number(text: &[u8]) -> Option<u64>
 
 /// What is printed as a number is read as that number.
 pub fn numbers_are_read_back()
-    ensures { (n : ℕ) → n < 2 ^ 64 → number_of (decimal n) ≡ Some n }
+    ensures { (n : ℕ) → n < 2 ^ 64 → number_said (decimal n) ≡ Some n }
 {}

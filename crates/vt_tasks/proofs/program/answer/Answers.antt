@@ -2,7 +2,7 @@ use Rattle.std.proofs.Common.{inr, map, refl, subst}
 use Rattle.vt_options.specs.declared.asking.Request.{Request}
 use Rattle.vt_options.specs.Asked.{IsAsked}
 use Rattle.vt_options.specs.Own.{models_of}
-use Rattle.vt_tasks.specs.Programs.{CallAnswers, IsAnswered}
+use Rattle.vt_tasks.specs.Programs.{CallAnswers, IsTaskAnswered}
 use Rattle.vt_tasks.proofs.ModelsLemmas.{task_of}
 use Rattle.vt_tasks.proofs.ProgramLemmas.{answer_done, answer_ends}
 use Rattle.vt_tasks.proofs.program.answer.Given.{Over}
@@ -18,7 +18,7 @@ carry_out-requires g c =
 
 -- the words ask for the task with the choice, and the call answered it
 answered : (g : Over) (c : After-into g)
-    → IsAnswered c.args.texts.now.name.now (models_of c.args.table.now) (map g.S.AsStr.text c.args.words.now) (CallAnswers g.F.FnOnce g.A.Into.converts c.args.carry_out c.args.reader.now c.carry_out.new.arg7 c.args.out.now c.carry_out.new.arg8) c.into.result
+    → IsTaskAnswered c.args.texts.now.name.now (models_of c.args.table.now) (map g.S.AsStr.text c.args.words.now) (CallAnswers g.F.FnOnce g.A.Into.converts c.args.carry_out c.args.reader.now c.carry_out.new.arg7 c.args.out.now c.carry_out.new.arg8) c.into.result
 answered g c = record {
   chosen = c.in-Task.chosen;
   task = c.in-Task.task;
