@@ -1,5 +1,5 @@
 -- What the calls answer that make a world and that read it.
-use Rattle.std.specs.Prelude.{◌≡◌, ℕ, ◌+◌, ◌<◌, ◌≤◌, ◌⊎◌, List, ◌++◌, map, length}
+use Rattle.std.specs.Prelude.{◌≡◌, ℕ, ◌+◌, ◌<◌, ◌⊎◌, List, ◌++◌, map, length}
 use Rattle.vt_key.specs.Times.{Time}
 use Rattle.vt_key.specs.declared.limits.TheConstants.{MAX_COUNT}
 use Rattle.vt_key.specs.declared.letter.Event.{Event}
@@ -13,17 +13,13 @@ use Rattle.vt_steps.specs.World.{Entry, LogicalProcess, World, start_sends}
 use Rattle.vt_steps.specs.Claims.{IsProcess}
 
 module _ {S P : Type 0} (sim : Simulation S P) where
-  -- with what the starts of each worker send, its serial stays within its limit
-  abbrev pub DoStartsFit : ℕ → Type 0
-  DoStartsFit serial = (w : ℕ) → w < sim.workers → serial + length (start_sends sim w) ≤ MAX_COUNT
-
   -- with what the starts of some worker send, its serial would pass its limit
   abbrev pub PassesAtStart : ℕ → Type 0
   PassesAtStart serial = (w : ℕ) × (w < sim.workers) × (MAX_COUNT < serial + length (start_sends sim w))
 
   -- why no opening world is made: a serial would pass its limit; or none would, and memory was refused
   abbrev pub IsOpeningRefusal : ℕ → Fault → Type 0
-  IsOpeningRefusal serial fault = ((fault ≡ Exhausted) × PassesAtStart serial) ⊎ ((fault ≡ Memory) × DoStartsFit serial)
+  IsOpeningRefusal serial fault = ((fault ≡ Exhausted) × PassesAtStart serial) ⊎ ((fault ≡ Memory) × (PassesAtStart serial → ⊥))
 
   -- these are the events of the past entries of process p of a world, in order
   abbrev pub IsPastIn : World P → ℕ → List (Event P) → Type 0

@@ -9,7 +9,7 @@ ghost use Rattle.vt_steps.specs.World.{opening_part, opening_world};
 ghost use Rattle.vt_steps.specs.StandsFor.{StandForParts};
 ghost use Rattle.vt_kernel.specs.Held.{part_memory};
 ghost use Rattle.vt_world.specs.Held.{AreWorkers};
-ghost use Rattle.vt_world.specs.Answers.{DoStartsFit, PassesAtStart, IsOpeningRefusal};
+ghost use Rattle.vt_world.specs.Answers.{PassesAtStart, IsOpeningRefusal};
 
 use crate::in_memory::InMemory;
 use crate::inbox::Inbox;
@@ -47,7 +47,7 @@ impl<'m, M: EventModel> World<'m, M> {
         requires counted { serial ≤ MAX_COUNT }
         ensures opening { IfOk result (λ made. made.world ≡ opening_world (simulation_of (M.handlers model.now) config) serial) }
         ensures made { IfOk result (λ world. (world.model ≡ model.now) × (world.config ≡ config)) }
-        ensures fits { OnOk result (DoStartsFit (simulation_of (M.handlers model.now) config) serial) }
+        ensures fits { OnOk result (PassesAtStart (simulation_of (M.handlers model.now) config) serial → ⊥) }
         ensures refused { IfErr result (λ fault. IsOpeningRefusal (simulation_of (M.handlers model.now) config) serial fault) }
     {
         if !all_starts_fit(model, config, serial) {
@@ -60,7 +60,7 @@ impl<'m, M: EventModel> World<'m, M> {
 /// Whether the serial of each worker stays at most 2^63 at the starts.
 fn all_starts_fit<M: EventModel>(model: &M, config: Config, serial: u64) -> bool
     requires counted { serial ≤ MAX_COUNT }
-    ensures fits { IsTrue result → DoStartsFit (simulation_of (M.handlers model.now) config) serial }
+    ensures fits { IsTrue result → PassesAtStart (simulation_of (M.handlers model.now) config) serial → ⊥ }
     ensures passes { IsFalse result → PassesAtStart (simulation_of (M.handlers model.now) config) serial }
 {
     for w in 0..config.workers {
@@ -78,7 +78,7 @@ fn open<'m, M: EventModel>(
     config: Config,
     serial: u64,
 ) -> Result<World<'m, M>, Fault>
-    requires fits { DoStartsFit (simulation_of (M.handlers model.now) config) serial }
+    requires fits { PassesAtStart (simulation_of (M.handlers model.now) config) serial → ⊥ }
     ensures opening { IfOk result (λ made. made.world ≡ opening_world (simulation_of (M.handlers model.now) config) serial) }
     ensures made { IfOk result (λ world. (world.model ≡ model.now) × (world.config ≡ config)) }
     ensures refused { IfErr result (λ fault. fault ≡ Memory) }
@@ -107,7 +107,7 @@ fn open_workers<M: EventModel>(
     config: Config,
     serial: u64,
 ) -> Result<Vec<Kernel<M>>, Fault>
-    requires fits { DoStartsFit (simulation_of (M.handlers model.now) config) serial }
+    requires fits { PassesAtStart (simulation_of (M.handlers model.now) config) serial → ⊥ }
     ensures count { IfOk result (λ v. length v.items ≡ config.workers) }
     ensures workers { IfOk result (λ v. AreWorkers config 0 v.items) }
     ensures opening { let sim = simulation_of (M.handlers model.now) config in IfOk result (λ v. StandForParts sim 0 (map (part_memory (M.handlers model.now)) v.items) (map (opening_part sim serial) (range_with_len 0 config.workers))) }

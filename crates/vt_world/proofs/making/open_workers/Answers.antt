@@ -1,8 +1,9 @@
-use Rattle.std.proofs.Common.{◌≡◌, ◌∙◌, ◌+◌, List, [], ◌∷◌, ◌++◌, length, map, sym, ap, subst, arith}
+use Rattle.std.proofs.Common.{rules, ◌≡◌, ◌<◌, ◌∙◌, ◌+◌, inl, inr, List, [], ◌∷◌, ◌++◌, length, map, sym, ap, subst, arith}
 use Rattle.std.specs.List.{range_with_len}
 use Rattle.std.proofs.lemmas.List.{length_push}
 use Rattle.std.proofs.lemmas.List.FromFn.{map-range_with_len_more}
-use Rattle.vt_key.proofs.ResultLemmas.{if_refused}
+use Rattle.vt_key.specs.declared.fault.Fault.TheVariants.{Memory}
+use Rattle.vt_key.proofs.ResultLemmas.{if_err, if_refused}
 use Rattle.vt_model.specs.declared.settings.Config.{Config}
 use Rattle.vt_model.specs.Simulation.{simulation_of}
 use Rattle.vt_steps.specs.World.{Part, opening_part}
@@ -49,3 +50,12 @@ returns-in_err-kernel-clause-workers g c = if_refused _ _ c.from_residual.result
 
 pub returns-in_err-kernel-clause-opening : goal.returns-in_err-kernel-clause-opening
 returns-in_err-kernel-clause-opening g c = if_refused _ _ c.from_residual.result c.from_residual.ensures.1
+
+pub returns-in_err-kernel-clause-refused : goal.returns-in_err-kernel-clause-refused
+returns-in_err-kernel-clause-refused g c =
+    let near : c.loop-w.w < c.args.config.workers = search rules in
+    if_err (λ fault. fault ≡ Memory) c.from_residual.result c.in_err-kernel.field-0.0 (search rules)
+    (elim c.in_err-kernel.ensures.refused [
+      | inl over ↦ absurd (c.requires.fits (c.loop-w.w, near, over.1))
+      | inr e ↦ e.0
+    ])
