@@ -23,7 +23,8 @@ use Rattle.vt_kernel.specs.Held.{HeldWorker, StandsFor}
 use Rattle.vt_kernel.specs.Guards.{held_letters}
 use Rattle.vt_kernel.proofs.ReportLemmas.{same-report}
 use Rattle.vt_kernel.proofs.TimeLemmas.{least_time-low}
-use Rattle.vt_cells.specs.Calls.{IsCellStepOf, PassesThere}
+use Rattle.vt_kernel.specs.Refusals.{PassesIn}
+use Rattle.vt_cells.specs.Calls.{IsCellStepOf, rounds_of}
 use Rattle.vt_cells.proofs.ActLemmas.{act-cut, act-not_cut, act_report, act-report, act-not_report}
 
 -- what a cut comes to, by what the board says: it is counted, and its rounds are within their limit
@@ -94,7 +95,7 @@ module _ {S P K : Type 0} (handlers : Handlers S P K) (w : ℕ) (old new : HeldW
               | inl a ↦ inl (ap (λ (x : Acted P). x.answer) (act-not_cut sim w part board a.0) ∙ ap Err (sym a.1))
               | inr a ↦
                   (let is = act-cut sim w part board a.0 a.1 in
-                  inr (Done, ap (λ (x : Acted P). x.answer) is, inl (a.2, subst (λ (x : Acted P). PassesThere (Cut w) x.part x.cell) (sym is) a.3)))
+                  inr (Done, ap (λ (x : Acted P). x.answer) is, inl (a.2, subst (λ (x : Acted P). PassesIn sim (Cut w) x.part (rounds_of x.cell)) (sym is) a.3)))
             ];
         unchanged = (same, ap on_board same_board);
       }

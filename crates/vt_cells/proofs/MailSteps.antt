@@ -1,7 +1,5 @@
 -- Send and Fetch on a kernel and an inbox, by what the kernel's calls do and refuse.
-use Rattle.std.proofs.Common.{◌≡◌, ℕ, ◌+◌, ◌<◌, ◌≤◌, inl, inr, true, List, [], ◌++◌, length, refl, sym, ◌∙◌, ap, subst, arith, Ok, Err}
-use Rattle.vt_key.specs.declared.limits.TheConstants.{MAX_COUNT}
-use Rattle.vt_key.specs.declared.letter.Colour.{Colour}
+use Rattle.std.proofs.Common.{◌≡◌, ℕ, ◌+◌, inl, inr, true, List, [], ◌++◌, refl, sym, ◌∙◌, ap, subst, arith, Ok, Err}
 use Rattle.vt_key.specs.declared.letter.Colour.TheVariants.{White, Red}
 use Rattle.vt_key.specs.declared.letter.Mail.{Mail}
 use Rattle.vt_key.specs.declared.fault.Fault.{Fault}
@@ -9,45 +7,32 @@ use Rattle.vt_model.specs.Handler.{Handlers}
 use Rattle.vt_model.specs.Simulation.{Simulation, simulation_of}
 use Rattle.vt_steps.specs.declared.step.Step.TheVariants.{Send, Fetch}
 use Rattle.vt_steps.specs.declared.step.Reply.TheVariants.{Done}
-use Rattle.vt_steps.specs.Letters.{Counts, count_of, raised, count_colour, is_empty}
+use Rattle.vt_steps.specs.Letters.{Counts, count_colour, is_empty}
 use Rattle.vt_steps.specs.World.{Part}
-use Rattle.vt_steps.specs.PartSteps.{letters_for, part_after_send, mail_of_send, part_after_fetch}
+use Rattle.vt_steps.specs.PartSteps.{part_after_send, mail_of_send, part_after_fetch}
 use Rattle.vt_steps.specs.Cells.{in_inbox, Acted}
 use Rattle.vt_steps.specs.CellSteps.{may_send}
 use Rattle.vt_kernel.specs.Held.{HeldWorker, StandsFor, AreCounted}
 use Rattle.vt_kernel.specs.Guards.{IsSendRefusal}
-use Rattle.vt_cells.specs.Calls.{IsCellRefusal, IsCellStepOf, IsTakeRefusal, PassesThere}
+use Rattle.vt_kernel.specs.Refusals.{PassesIn}
+use Rattle.vt_cells.specs.Calls.{IsCellRefusal, IsCellStepOf, IsTakeRefusal, rounds_of}
 use Rattle.vt_cells.proofs.ActLemmas.{act-send, act-not_send, act-fetch, act-not_fetch}
 
--- a raised count
-count-raised : (counts : Counts) (colour : Colour) (n : ℕ) → count_of (raised counts colour n) colour ≡ count_of counts colour + n
-count-raised counts White n = refl
-count-raised counts Red n = refl
-
 module _ {S P : Type 0} (sim : Simulation S P) where
-  -- how much of its colour a worker has sent after a send
-  sent-after : (v : ℕ) (part : Part P) → count_of (part_after_send sim v part).sent (part_after_send sim v part).colour ≡ count_of part.sent part.colour + length (letters_for sim v part)
-  unfolding part_after_send
-  sent-after v part = count-raised part.sent part.colour (length (letters_for sim v part))
-
   -- why Send is refused
   send-why : (w v : ℕ) (part : Part P) (mails : List (Mail P)) (fault : Fault) → IsSendRefusal sim w v part fault → IsCellRefusal sim (Send w v) part (in_inbox mails) fault
   send-why w v part mails fault (inl a) = inl (ap (λ (x : Acted P). x.answer) (act-not_send sim w v part mails a.1) ∙ ap Err (sym a.0))
   send-why w v part mails fault (inr a) =
       let is = act-send sim w v part mails a.0 in
-      let more = sent-after v part in
       inr (
         Done,
         ap (λ (x : Acted P). x.answer) is,
         elim a.1 [
-          | inl b ↦ inl (b.0, subst (λ (x : Acted P). PassesThere (Send w v) x.part x.cell) (sym is) (let past = b.1 in omega (arith, past, more)))
+          | inl b ↦ inl (b.0, subst (λ (x : Acted P). PassesIn sim (Send w v) x.part (rounds_of x.cell)) (sym is) b.1)
           | inr b ↦ inr (
             b.0,
             tt,
-            λ h.
-                (let over : MAX_COUNT < count_of (part_after_send sim v part).sent (part_after_send sim v part).colour = subst (λ (x : Acted P). PassesThere (Send w v) x.part x.cell) is h in
-                let few = b.1 in
-                omega (arith, over, more, few)),
+            λ h. b.1 (subst (λ (x : Acted P). PassesIn sim (Send w v) x.part (rounds_of x.cell)) is h),
           )
         ],
       )
@@ -70,7 +55,7 @@ module _ {S P : Type 0} (sim : Simulation S P) where
         ap (λ (x : Acted P). x.answer) is,
         inl (
           a.0,
-          subst (λ (x : Acted P). PassesThere (Fetch w) x.part x.cell) (sym is)
+          subst (λ (x : Acted P). PassesIn sim (Fetch w) x.part (rounds_of x.cell)) (sym is)
               (elim a.2 [
                 | inl b ↦ inl (omega (arith, b, white))
                 | inr b ↦ inr (omega (arith, b, red))
@@ -83,7 +68,7 @@ module _ {S P K : Type 0} (handlers : Handlers S P K) (old new : HeldWorker S P 
   pub send-done : (v : ℕ) (mails left : List (Mail P)) → new.worker ≡ old.worker → new.config ≡ old.config
       → ((part : Part P) → StandsFor handlers old part → (may_send (simulation_of handlers old.config).workers old.worker v part.outbox ≡ true)
       × StandsFor handlers new (part_after_send (simulation_of handlers old.config) v part) × (left ≡ mails ++ mail_of_send (simulation_of handlers old.config) v part))
-      → ((part : Part P) → StandsFor handlers new part → count_of part.sent part.colour ≤ MAX_COUNT)
+      → ((part : Part P) → StandsFor handlers new part → PassesIn (simulation_of handlers old.config) (Send old.worker v) part 0 → ⊥)
       → IsCellStepOf handlers old.config (Send old.worker v) old new (in_inbox mails) (in_inbox left) (Ok Done)
   send-done v mails left same_worker same_config does few = record {
     done = record {
@@ -97,7 +82,7 @@ module _ {S P K : Type 0} (handlers : Handlers S P K) (old new : HeldWorker S P 
       worker = same_worker;
       config_is = same_config;
     };
-    within = λ part s over. (let most = few part s in omega (arith, most, over));
+    within = few;
     refused = λ part s. tt;
     unchanged = tt;
   }

@@ -1,73 +1,74 @@
 -- A step on a part and on what a cell holds, in a world that has them.
-use Rattle.std.proofs.Common.{◌≡◌, ℕ, ◌<◌, ◌⊎◌, inl, inr, refl, sym, ◌∙◌, ap, subst, Option, Some, None, slice_get}
+use Rattle.std.proofs.Common.{◌≡◌, ℕ, ◌<◌, inl, inr, refl, sym, ◌∙◌, ap, subst, Option, Some, None, slice_get}
 use Rattle.vt_key.specs.declared.fault.Fault.{Fault}
 use Rattle.vt_key.specs.declared.limits.TheConstants.{MAX_COUNT}
 use Rattle.vt_model.specs.Simulation.{Simulation}
 use Rattle.vt_steps.specs.declared.step.Step.{Step}
 use Rattle.vt_steps.specs.declared.step.Step.TheVariants.{Execute, Undo, Cancel, Home, Send, Fetch, Accept, Cut, Report, Commit, Close}
-use Rattle.vt_steps.specs.Letters.{count_of}
 use Rattle.vt_steps.specs.World.{Part, World, Board}
 use Rattle.vt_steps.specs.CellSteps.{CellEffect, cut}
 use Rattle.vt_steps.specs.Next.{Outcome, next, with_part}
-use Rattle.vt_steps.specs.Cells.{CellName, board_cell, Cell, on_board, content, with_content, worker_of, cell_of, Acted, acted_at, act, put_back}
+use Rattle.vt_steps.specs.Cells.{CellName, board_cell, Cell, on_board, content, with_content, worker_of, cell_of, acted_at, act, put_back}
 use Rattle.vt_steps.specs.Laws.{IsAny}
 use Rattle.vt_steps.proofs.steps.CellLemmas.{next-acts_on_one_cell}
 use Rattle.vt_steps.proofs.steps.LocalLeads.{parts-put}
 use Rattle.vt_steps.proofs.lists.Places.{get-put_same}
-use Rattle.vt_kernel.specs.Refusals.{PassesLimit, IsStepRefusal}
-use Rattle.vt_cells.specs.Calls.{PassesThere, IsCellRefusal}
+use Rattle.vt_kernel.specs.Refusals.{PassesIn, PassesLimit, IsStepRefusal}
+use Rattle.vt_kernel.proofs.LimitLemmas.{passes-world, passes-part}
+use Rattle.vt_cells.specs.Calls.{rounds_of, IsCellRefusal}
 
 -- each of two follows from the other
 abbrev pub Both : Type 0 → Type 0 → Type 0
 Both A B = (A → B) × (B → A)
 
-module _ {S P : Type 0} (sim : Simulation S P) where
-  -- what holds of the part after a step, and of the part of the world after it
-  of-part : (world : World P) (v w : ℕ) (name : CellName) (part : Part P) (acted : Acted P) (Q : Part P → Type 0) → v ≡ w → slice_get world.parts w ≡ Some part
-      → Both (Q acted.part) ((q : Part P) × (slice_get (put_back world w name acted).world.parts v ≡ Some q) × Q q)
-  of-part world v w name part acted Q same there =
-      let after = (put_back world w name acted).world in
-      let at : slice_get after.parts v ≡ Some acted.part =
-      ap (slice_get after.parts) same ∙ ap (λ ps. slice_get ps w) (parts-put (with_part world w acted.part) name acted.cell) ∙ get-put_same world.parts w part acted.part there in (
-        λ h. (acted.part, at, h),
-        λ h. (let k : Some h.0 ≡ Some acted.part = sym h.1 ∙ at in let is : h.0 ≡ acted.part = cc in subst Q is h.2),
-      )
+-- the rounds of a board after a step at it
+of-rounds : {P : Type 0} (world : World P) (part : Part P) (board : Board) (o : Option (CellEffect P Board)) →
+    rounds_of (acted_at part on_board board o).cell ≡ (with_content world board_cell (acted_at part on_board board o).cell).board.rounds
+of-rounds world part board None = refl
+of-rounds world part board (Some effect) = refl
 
-  -- the rounds of a board after a step at it
-  of-rounds : (world : World P) (v : ℕ) (part q : Part P) (board : Board) (o : Option (CellEffect P Board)) →
-      Both (PassesThere (Cut v) q (acted_at part on_board board o).cell) (MAX_COUNT < (with_content world board_cell (acted_at part on_board board o).cell).board.rounds)
-  of-rounds world v part q board None = (λ h. h, λ h. h)
-  of-rounds world v part q board (Some effect) = (λ h. h, λ h. h)
+module _ {S P : Type 0} (sim : Simulation S P) (world : World P) (w : ℕ) (name : CellName) (part : Part P) (cell : Cell P)
+    (there : slice_get world.parts w ≡ Some part) (holds : content world name ≡ Some cell) where
+  -- the world after a step on the part and the cell
+  abbrev after : Step → World P
+  after step = (put_back world w name (act sim step part cell)).world
 
-  -- a counter is past its limit after a step in the part and the cell exactly where it is in the world
-  abbrev PassesBoth : World P → Step → ℕ → CellName → Part P → Cell P → Type 0
-  PassesBoth world step w name part cell =
-      let acted = act sim step part cell in Both (PassesThere step acted.part acted.cell) (PassesLimit sim step (put_back world w name acted).world)
+  -- a counter is past its limit in the part after a step of its worker exactly where it is in the world
+  at-worker : (step : Step) → worker_of sim step ≡ Some w → Both (PassesIn sim step (act sim step part cell).part (after step).board.rounds) (PassesLimit sim step (after step))
+  at-worker step whose =
+      let acted = act sim step part cell in
+      let at : slice_get (after step).parts w ≡ Some acted.part =
+      ap (λ ps. slice_get ps w) (parts-put (with_part world w acted.part) name acted.cell) ∙ get-put_same world.parts w part acted.part there in
+      (passes-world sim step (after step) whose at, passes-part sim step (after step) whose at)
 
-  passes-cut : (world : World P) (v w : ℕ) (part : Part P) → PassesBoth world (Cut v) w board_cell part (on_board world.board)
+  -- the rounds after a cut, on the board and in the world
+  cut-rounds : (v : ℕ) → board_cell ≡ name → rounds_of (act sim (Cut v) part cell).cell ≡ (after (Cut v)).board.rounds
   unfolding act
-  passes-cut world v w part =
-      of-rounds (with_part world w (act sim (Cut v) part (on_board world.board)).part) v part (act sim (Cut v) part (on_board world.board)).part world.board (cut sim v part world.board)
-
-  passes : (world : World P) (step : Step) (w : ℕ) (name : CellName) (part : Part P) (cell : Cell P) → IsAny (worker_of sim step) w → cell_of sim step ≡ Some name
-      → slice_get world.parts w ≡ Some part → content world name ≡ Some cell → PassesBoth world step w name part cell
-  passes world (Send v u) w name part cell whose named there holds =
-      of-part world v w name part (act sim (Send v u) part cell) (λ q. MAX_COUNT < count_of q.sent q.colour) whose there
-  passes world (Fetch v) w name part cell whose named there holds =
-      of-part world v w name part (act sim (Fetch v) part cell) (λ q. (MAX_COUNT < q.got.white) ⊎ (MAX_COUNT < q.got.red)) whose there
-  passes world (Cut v) w name part cell whose named there holds =
-      let is : board_cell ≡ name = (let h : Some board_cell ≡ Some name = named in cc) in
+  cut-rounds v is =
       let held : Some (on_board world.board) ≡ Some cell = ap (content world) is ∙ holds in
       let same : on_board world.board ≡ cell = cc in
-      subst (λ c. PassesBoth world (Cut v) w name part c) same (subst (λ n. PassesBoth world (Cut v) w n part (on_board world.board)) is (passes-cut world v w part))
-  passes world (Report v) w name part cell whose named there holds = (λ h. h, λ h. h)
-  passes world (Commit v) w name part cell whose named there holds = (λ h. h, λ h. h)
-  passes world Close w name part cell whose named there holds = (λ h. h, λ h. h)
-  passes world (Execute p) w name part cell whose named there holds = absurd (let h : None ≡ Some name = named in cc)
-  passes world (Undo p) w name part cell whose named there holds = absurd (let h : None ≡ Some name = named in cc)
-  passes world (Cancel p stamp) w name part cell whose named there holds = absurd (let h : None ≡ Some name = named in cc)
-  passes world (Home v) w name part cell whose named there holds = absurd (let h : None ≡ Some name = named in cc)
-  passes world (Accept v i) w name part cell whose named there holds = absurd (let h : None ≡ Some name = named in cc)
+      let found = act sim (Cut v) part (on_board world.board) in
+      subst (λ (x : CellName × Cell P). rounds_of (act sim (Cut v) part x.1).cell ≡ (put_back world w x.0 (act sim (Cut v) part x.1)).world.board.rounds) (λ i. (is i, same i))
+      (of-rounds (with_part world w found.part) part world.board (cut sim v part world.board))
+
+  -- it is past its limit in the part and the cell exactly where it is in the world
+  passes : (step : Step) → IsAny (worker_of sim step) w → cell_of sim step ≡ Some name
+      → Both (PassesIn sim step (act sim step part cell).part (rounds_of (act sim step part cell).cell)) (PassesLimit sim step (after step))
+  passes (Execute p) whose named = at-worker (Execute p) (ap Some whose)
+  passes (Undo p) whose named = at-worker (Undo p) (ap Some whose)
+  passes (Cancel p stamp) whose named = at-worker (Cancel p stamp) (ap Some whose)
+  passes (Home v) whose named = at-worker (Home v) (ap Some whose)
+  passes (Send v u) whose named = at-worker (Send v u) (ap Some whose)
+  passes (Fetch v) whose named = at-worker (Fetch v) (ap Some whose)
+  passes (Accept v i) whose named = at-worker (Accept v i) (ap Some whose)
+  passes (Cut v) whose named =
+      let is : board_cell ≡ name = (let h : Some board_cell ≡ Some name = named in cc) in
+      let rounds = cut-rounds v is in
+      let both = at-worker (Cut v) (ap Some whose) in
+      (λ h. both.0 (subst (λ n. MAX_COUNT < n) rounds h), λ h. subst (λ n. MAX_COUNT < n) (sym rounds) (both.1 h))
+  passes (Report v) whose named = at-worker (Report v) (ap Some whose)
+  passes (Commit v) whose named = at-worker (Commit v) (ap Some whose)
+  passes Close whose named = (λ h. h, λ h. h)
 
 module _ {S P : Type 0} (sim : Simulation S P) (world : World P) (step : Step) (w : ℕ) {name : CellName} {part : Part P} {cell : Cell P}
     (whose : IsAny (worker_of sim step) w) (named : cell_of sim step ≡ Some name) (there : slice_get world.parts w ≡ Some part) (holds : content world name ≡ Some cell) where
@@ -76,13 +77,13 @@ module _ {S P : Type 0} (sim : Simulation S P) (world : World P) (step : Step) (
   next-put_back =
       (next-acts_on_one_cell sim world step).acts w name part cell whose (subst (λ o. IsAny o name) (sym named) refl) there holds
 
-  both : Both (PassesThere step (act sim step part cell).part (act sim step part cell).cell) (PassesLimit sim step (next sim world step).world)
+  both : Both (PassesIn sim step (act sim step part cell).part (rounds_of (act sim step part cell).cell)) (PassesLimit sim step (next sim world step).world)
   both =
-      subst (λ (o : Outcome P). Both (PassesThere step (act sim step part cell).part (act sim step part cell).cell) (PassesLimit sim step o.world)) (sym next-put_back)
-      (passes sim world step w name part cell whose named there holds)
+      subst (λ (o : Outcome P). Both (PassesIn sim step (act sim step part cell).part (rounds_of (act sim step part cell).cell)) (PassesLimit sim step o.world)) (sym next-put_back)
+      (passes sim world w name part cell there holds step whose named)
 
   -- where no counter is past its limit in the part and the cell, none is in the world
-  pub limit-there : PassesLimit sim step (next sim world step).world → PassesThere step (act sim step part cell).part (act sim step part cell).cell
+  pub limit-there : PassesLimit sim step (next sim world step).world → PassesIn sim step (act sim step part cell).part (rounds_of (act sim step part cell).cell)
   limit-there = both.1
 
   -- why the step of the world is refused

@@ -11,10 +11,10 @@ use Rattle.vt_model.specs.Handler.{Handlers}
 use Rattle.vt_model.specs.Histories.{IsLawful}
 use Rattle.vt_model.specs.Simulation.{Simulation, simulation_of}
 use Rattle.vt_steps.specs.declared.step.Step.{Step}
-use Rattle.vt_steps.specs.declared.step.Step.TheVariants.{Send, Fetch, Cut, Commit}
+use Rattle.vt_steps.specs.declared.step.Step.TheVariants.{Commit}
 use Rattle.vt_steps.specs.declared.step.Reply.{Reply}
 use Rattle.vt_steps.specs.declared.step.Reply.TheVariants.{Done}
-use Rattle.vt_steps.specs.Letters.{Counts, is_empty, count_of, count_colour}
+use Rattle.vt_steps.specs.Letters.{Counts, is_empty, count_colour}
 use Rattle.vt_steps.specs.World.{Part, Book}
 use Rattle.vt_steps.specs.PartSteps.{part_after_commit, rows_of_commit}
 use Rattle.vt_steps.specs.BookSteps.{may_close}
@@ -24,7 +24,7 @@ use Rattle.vt_board.specs.declared.board.Report.{Report}
 use Rattle.vt_board.specs.Calls.{reply_of}
 use Rattle.vt_book.specs.Books.{RunBook}
 use Rattle.vt_kernel.specs.Held.{HeldWorker, StandsFor}
-use Rattle.vt_kernel.specs.Refusals.{TakesMemory}
+use Rattle.vt_kernel.specs.Refusals.{PassesIn, TakesMemory}
 
 -- with this mail a count of mail got is past its limit
 abbrev pub IsTooMuchMail : {P : Type 0} → Counts → List (Mail P) → Type 0
@@ -35,12 +35,10 @@ abbrev pub IsTakeRefusal : {P : Type 0} → List (Mail P) → Counts → List (M
 IsTakeRefusal arrived got mails fault =
     ((fault ≡ NotLawful) × (is_empty arrived ≡ false)) ⊎ ((fault ≡ Exhausted) × (is_empty arrived ≡ true) × IsTooMuchMail got mails)
 
--- a counter that the step raises is past its limit in this part and this cell, after it
-abbrev pub PassesThere : {P : Type 0} → Step → Part P → Cell P → Type 0
-PassesThere (Send w v) part cell = MAX_COUNT < count_of part.sent part.colour
-PassesThere (Fetch w) part cell = (MAX_COUNT < part.got.white) ⊎ (MAX_COUNT < part.got.red)
-PassesThere (Cut w) part (on_board board) = MAX_COUNT < board.rounds
-PassesThere _ part cell = ⊥
+-- the number of rounds on a cell that is the board; other cells tell of none
+abbrev pub rounds_of : {P : Type 0} → Cell P → ℕ
+rounds_of (on_board board) = board.rounds
+rounds_of _ = 0
 
 -- why a step on a part and a cell is refused: as the definitions refuse it; or it is lawful, and a counter would pass its
 -- limit; or none would, and memory was refused
@@ -49,8 +47,8 @@ IsCellRefusal sim step part cell fault =
     let acted = act sim step part cell in
     (acted.answer ≡ Err fault)
     ⊎ ((reply : Reply) × (acted.answer ≡ Ok reply)
-    × (((fault ≡ Exhausted) × PassesThere step acted.part acted.cell)
-    ⊎ ((fault ≡ Memory) × TakesMemory sim step × (PassesThere step acted.part acted.cell → ⊥))))
+    × (((fault ≡ Exhausted) × PassesIn sim step acted.part (rounds_of acted.cell))
+    ⊎ ((fault ≡ Memory) × TakesMemory sim step × (PassesIn sim step acted.part (rounds_of acted.cell) → ⊥))))
 
 module _ {S P K : Type 0} (handlers : Handlers S P K) where
   -- a step does this to the kernel's part, whatever part it stands for, and to a cell
@@ -64,7 +62,7 @@ module _ {S P K : Type 0} (handlers : Handlers S P K) where
   -- counter that it raises is past its limit. Where it is refused, it says why, and the kernel and the cell are as they were
   pub record IsCellStepOf (config : Config) (step : Step) (old new : HeldWorker S P K) (found left : Cell P) (result : Result Reply Fault) : Type 0 where
     pub done : IfOk result (λ reply. Acts config step reply old found new left)
-    pub within : (part : Part P) → StandsFor handlers new part → IfOk result (λ reply. PassesThere step part left → ⊥)
+    pub within : (part : Part P) → StandsFor handlers new part → IfOk result (λ reply. PassesIn (simulation_of handlers config) step part (rounds_of left) → ⊥)
     pub refused : (part : Part P) → StandsFor handlers old part → IfErr result (IsCellRefusal (simulation_of handlers config) step part found)
     pub unchanged : IfErr result (λ fault. (new ≡ old) × (left ≡ found))
 

@@ -12,6 +12,7 @@ pub mod PlaceLemmas
 pub mod ReportLemmas
 pub mod SendLemmas
 pub mod TimeLemmas
+pub mod LimitLemmas
 pub mod LocalLemmas
 pub mod DeliveryLemmas
 pub mod SettledWorker

@@ -1,6 +1,6 @@
 -- A step at one process of a worker as a step of the worker's part.
-use Rattle.std.proofs.Common.{◌≡◌, ℕ, ◌+◌, ◌*◌, ◌/◌, ◌%◌, ◌<◌, ◌≤◌, inl, inr, Bool, List, map, refl, sym, ◌∙◌, ap, subst, arith, Option, Some, None, slice_get, slice_set, if◌then◌else◌}
-use Rattle.std.specs.Option.{option_and_then, option_map}
+use Rattle.std.proofs.Common.{◌≡◌, ℕ, ◌+◌, ◌*◌, ◌/◌, ◌%◌, ◌<◌, ◌≤◌, inl, inr, Bool, List, map, sym, ◌∙◌, ap, subst, arith, Option, Some, None, slice_get, slice_set, if◌then◌else◌}
+use Rattle.std.specs.Option.{IsSomeAnd, option_and_then, option_map}
 use Rattle.std.proofs.lemmas.Bool.Decides.{eqb_tells}
 use Rattle.std.proofs.Math.Nat.{div-add-mod'}
 use Rattle.vt_key.specs.declared.letter.Letter.{Letter}
@@ -20,7 +20,8 @@ use Rattle.vt_steps.proofs.steps.MemoryLemmas.{is_where}
 use Rattle.vt_lp.specs.Held.{HeldProcess, process_memory, StandsFor as ProcessStandsFor}
 use Rattle.vt_lp.specs.Guards.{IsDone as ProcessIsDone, IsExecuteRefusal as ProcessIsExecuteRefusal, number_of}
 use Rattle.vt_kernel.specs.Held.{HeldWorker, StandsFor, AreProcesses}
-use Rattle.vt_kernel.specs.Guards.{IsDone, AreWithinLimits, IsExecuteRefusal, NumberIs}
+use Rattle.vt_kernel.specs.Guards.{IsDone, IsExecuteRefusal}
+use Rattle.vt_kernel.specs.Refusals.{PassesIn}
 use Rattle.vt_kernel.proofs.ProcessLemmas.{get-map_of, stands-at, process-at, stands-after}
 
 module _ {S P : Type 0} (sim : Simulation S P) (w : ℕ) where
@@ -88,18 +89,16 @@ module _ {S P K : Type 0} (handlers : Handlers S P K) where
 
   -- the counters of a part, by those of the worker that stands for it
   pub within-limits : (held : HeldWorker S P K) (part : Part P) (p : ℕ) (q : HeldProcess S P K) → StandsFor handlers held part → IsFound held part p q
-      → q.triple.number ≤ MAX_COUNT → held.serial ≤ MAX_COUNT → AreWithinLimits (simulation_of handlers held.config) p part
-  within-limits held part p q h at few_sends few_made = record {
-    number = λ process there.
-        (let sim = simulation_of handlers held.config in
-        let one : Some at.process ≡ Some process = sym at.there ∙ there in
-        let same : at.process ≡ process = cc in
-        let is : number_of (simulation_of handlers q.config) q.lp at.process ≡ q.triple.number = ap (λ (t : Triple S). t.number) (is_where (simulation_of handlers q.config) q.lp (process_memory handlers q) at.process at.stands) in
-        let of : number_of (simulation_of handlers q.config) q.lp at.process ≡ number_of sim p process =
-        ap (λ (c : Config). number_of (simulation_of handlers c) q.lp at.process) at.config ∙ ap (λ k. number_of sim k at.process) at.lp ∙ ap (number_of sim p) same in
-        subst (λ n. n ≤ MAX_COUNT) (sym is ∙ of) few_sends);
-    serial = subst (λ n. n ≤ MAX_COUNT) (sym h.serial) few_made;
-  }
+      → q.triple.number ≤ MAX_COUNT → held.serial ≤ MAX_COUNT → PassesIn (simulation_of handlers held.config) (Execute p) part 0 → ⊥
+  within-limits held part p q h at few_sends few_made (inl over) = let serial = h.serial in omega (arith, over, serial, few_made)
+  within-limits held part p q h at few_sends few_made (inr over) =
+      let sim = simulation_of handlers held.config in
+      let is : number_of (simulation_of handlers q.config) q.lp at.process ≡ q.triple.number =
+      ap (λ (t : Triple S). t.number) (is_where (simulation_of handlers q.config) q.lp (process_memory handlers q) at.process at.stands) in
+      let of : number_of (simulation_of handlers q.config) q.lp at.process ≡ number_of sim p at.process =
+      ap (λ (c : Config). number_of (simulation_of handlers c) q.lp at.process) at.config ∙ ap (λ k. number_of sim k at.process) at.lp in
+      let past : MAX_COUNT < number_of sim p at.process = subst (λ o. IsSomeAnd o (λ process. MAX_COUNT < number_of sim p process)) at.there over in
+      omega (arith, past, is, of, few_sends)
 
   -- the worker after a step at the process of p
   abbrev pub with_process : HeldWorker S P K → ℕ → HeldProcess S P K → List (Letter P) → ℕ → HeldWorker S P K
@@ -151,12 +150,21 @@ module _ {S P K : Type 0} (handlers : Handlers S P K) where
   refusal-at held part p (Some effect) process fault h there why =
       let sim = simulation_of handlers held.config in
       let place = p / held.config.workers in
-      let is : NumberIs sim p (with_effect part place effect) (number_of sim p effect.process) = (effect.process, get-put_same part.processes place process effect.process there, refl) in
-      let serial : part.serial + effect.serials ≡ held.serial + effect.serials = ap (λ k. k + effect.serials) h.serial in (
-        number_of sim p effect.process,
-        is,
-        elim why [
-          | inl e ↦ inl (e.0, elim e.1 [ inl a ↦ inl a | inr b ↦ inr (subst (λ k. MAX_COUNT < k) (sym serial) b) ])
-          | inr e ↦ inr (e.0, e.1.number, subst (λ k. k ≤ MAX_COUNT) (sym serial) e.1.serials)
-        ],
-      )
+      let is : slice_get (with_effect part place effect).processes place ≡ Some effect.process = get-put_same part.processes place process effect.process there in
+      let serial : part.serial + effect.serials ≡ held.serial + effect.serials = ap (λ k. k + effect.serials) h.serial in
+      elim why [
+        | inl e ↦ inl (
+          e.0,
+          elim e.1 [
+            | inl a ↦ inr (subst (λ o. IsSomeAnd o (λ x. MAX_COUNT < number_of sim p x)) (sym is) a)
+            | inr b ↦ inl (subst (λ k. MAX_COUNT < k) (sym serial) b)
+          ],
+        )
+        | inr e ↦ inr (
+          e.0,
+          λ over. e.1 (elim over [
+            | inl b ↦ inr (subst (λ k. MAX_COUNT < k) serial b)
+            | inr a ↦ inl (subst (λ o. IsSomeAnd o (λ x. MAX_COUNT < number_of sim p x)) is a)
+          ]),
+        )
+      ]

@@ -15,7 +15,7 @@ use Rattle.vt_model.specs.declared.settings.Config.{Config}
 use Rattle.vt_model.specs.Settings.{end_of}
 use Rattle.vt_steps.specs.Letters.{Counts, count_of, raised}
 use Rattle.vt_steps.specs.World.{Part}
-use Rattle.vt_steps.specs.PartSteps.{is_for, letters_for}
+use Rattle.vt_steps.specs.PartSteps.{is_for, letters_for, part_after_send}
 use Rattle.vt_steps.specs.CellSteps.{may_send}
 use Rattle.vt_lp.specs.Held.{AllWithinRun, IsWithinRun}
 use Rattle.vt_kernel.specs.Held.{HeldWorker, StandsFor, AreCounted, AllOwnMail, IsOwnMail}
@@ -30,6 +30,16 @@ count_of-counted counts Red h = h.red
 pub counted-raised : (counts : Counts) (colour : Colour) (n : ℕ) → AreCounted counts → count_of counts colour + n ≤ MAX_COUNT → AreCounted (raised counts colour n)
 counted-raised counts White n h few = record { white = few; red = h.red }
 counted-raised counts Red n h few = record { white = h.white; red = few }
+
+count-raised : (counts : Counts) (colour : Colour) (n : ℕ) → count_of (raised counts colour n) colour ≡ count_of counts colour + n
+count-raised counts White n = refl
+count-raised counts Red n = refl
+
+-- how much of its colour a worker has sent after a send
+pub sent-after : {S P : Type 0} (sim : Simulation S P) (v : ℕ) (part : Part P)
+    → count_of (part_after_send sim v part).sent (part_after_send sim v part).colour ≡ count_of part.sent part.colour + length (letters_for sim v part)
+unfolding part_after_send
+sent-after sim v part = count-raised part.sent part.colour (length (letters_for sim v part))
 
 -- ---- a test of some element, and how many pass it
 
@@ -82,6 +92,7 @@ module _ {S P K : Type 0} where
   refused-send {held} {now} e handlers v part s fault most room other why =
       let sim = simulation_of handlers now.config in
       let count = count_sent e handlers v part s in
+      let after = sent-after sim v part in
       let sent : count_of held.sent held.colour ≡ count_of part.sent part.colour =
       ap (λ (u : HeldWorker S P K). count_of u.sent u.colour) e ∙ (λ j. count_of (sym s.sent j) (sym s.colour j)) in
       let else_worker : nat_eq now.worker v ≡ false = ap (λ (u : HeldWorker S P K). nat_eq u.worker v) (sym e) ∙ other in
@@ -92,8 +103,8 @@ module _ {S P K : Type 0} where
             inr (
               may_send-yes sim now.worker v part else_worker yes,
               elim some.1 [
-                | inl full ↦ inl (full.0, omega (arith, full.1, room, count, sent))
-                | inr refused ↦ inr (refused.0, omega (arith, refused.1, room, count, sent))
+                | inl full ↦ inl (full.0, omega (arith, full.1, room, count, sent, after))
+                | inr refused ↦ inr (refused.0, λ over. omega (arith, over, refused.1, room, count, sent, after))
               ],
             )
       ]

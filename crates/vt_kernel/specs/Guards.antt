@@ -1,7 +1,6 @@
 -- What the calls of a worker answer and leave, by the steps of a world's part.
-use Rattle.std.specs.Prelude.{◌≡◌, ℕ, ◌+◌, ◌<◌, ◌≤◌, ◌⊎◌, ◌/◌, ◌%◌, ◌^◌, true, false, List, ◌++◌, length, Option, Some, None, slice_get, slice_set, slice_index_or}
+use Rattle.std.specs.Prelude.{◌≡◌, ℕ, ◌⊎◌, ◌%◌, ◌^◌, true, false, List, ◌++◌, Option, Some, None, slice_set, slice_index_or}
 use Rattle.vt_key.specs.Times.{Time}
-use Rattle.vt_key.specs.declared.limits.TheConstants.{MAX_COUNT}
 use Rattle.vt_key.specs.declared.letter.Letter.{Letter}
 use Rattle.vt_key.specs.declared.letter.Mail.{Mail}
 use Rattle.vt_key.specs.declared.letter.Colour.{Colour}
@@ -10,15 +9,15 @@ use Rattle.vt_key.specs.declared.fault.Fault.TheVariants.{Memory, NotLawful, Exh
 use Rattle.vt_model.specs.Handler.{Handlers}
 use Rattle.vt_model.specs.Simulation.{Simulation}
 use Rattle.vt_steps.specs.declared.step.Step.{Step}
-use Rattle.vt_steps.specs.Letters.{count_of}
+use Rattle.vt_steps.specs.declared.step.Step.TheVariants.{Execute, Send}
 use Rattle.vt_steps.specs.World.{LogicalProcess, Part, letters_of_worker}
-use Rattle.vt_steps.specs.PartSteps.{letters_for, process_after_commit}
+use Rattle.vt_steps.specs.PartSteps.{part_after_send, process_after_commit}
 use Rattle.vt_steps.specs.CellSteps.{may_send}
 use Rattle.vt_steps.specs.Cells.{local_steps}
 use Rattle.vt_lp.specs.Held.{HeldProcess, StandsFor as ProcessStandsFor}
-use Rattle.vt_lp.specs.Guards.{number_of}
 use Rattle.vt_kernel.specs.Held.{HeldWorker, StandsFor}
 use Rattle.vt_kernel.specs.Local.{IsSettled, AreSettling, count_undos}
+use Rattle.vt_kernel.specs.Refusals.{PassesIn}
 
 -- a step is done: it was lawful, and the worker stands for the part after it
 pub record IsDone {S P K : Type 0} (handlers : Handlers S P K) (new : HeldWorker S P K) (step : Option (Part P)) : Type 0 where
@@ -32,23 +31,12 @@ IsAcceptRefusal None fault = fault ≡ NotLawful
 IsAcceptRefusal (Some part) fault = fault ≡ Memory
 
 module _ {S P : Type 0} (sim : Simulation S P) where
-  -- the send number of process p in a part
-  abbrev pub NumberIs : ℕ → Part P → ℕ → Type 0
-  NumberIs p part number =
-      (process : LogicalProcess P) × (slice_get part.processes (p / sim.workers) ≡ Some process) × (number ≡ number_of sim p process)
-
-  -- in this part the send number of process p and the serial are within their limits
-  pub record AreWithinLimits (p : ℕ) (part : Part P) : Type 0 where
-    pub number : (process : LogicalProcess P) → slice_get part.processes (p / sim.workers) ≡ Some process → number_of sim p process ≤ MAX_COUNT
-    pub serial : part.serial ≤ MAX_COUNT
-
   -- why Execute of process p is refused: it is not lawful; or it is, and the send number or the serial would pass its limit;
   -- or neither would, and memory was refused
   abbrev pub IsExecuteRefusal : ℕ → Option (Part P) → Fault → Type 0
   IsExecuteRefusal p None fault = fault ≡ NotLawful
-  IsExecuteRefusal p (Some part) fault = (number : ℕ) × NumberIs p part number
-      × (((fault ≡ Exhausted) × ((MAX_COUNT < number) ⊎ (MAX_COUNT < part.serial)))
-      ⊎ ((fault ≡ Memory) × (number ≤ MAX_COUNT) × (part.serial ≤ MAX_COUNT)))
+  IsExecuteRefusal p (Some part) fault =
+      ((fault ≡ Exhausted) × PassesIn sim (Execute p) part 0) ⊎ ((fault ≡ Memory) × (PassesIn sim (Execute p) part 0 → ⊥))
 
   -- why Send from worker w to v is refused: it is not lawful; or it is, and the count of mail sent would pass its limit; or it
   -- would not, and memory was refused
@@ -56,8 +44,8 @@ module _ {S P : Type 0} (sim : Simulation S P) where
   IsSendRefusal w v part fault =
       ((fault ≡ NotLawful) × (may_send sim.workers w v part.outbox ≡ false))
       ⊎ ((may_send sim.workers w v part.outbox ≡ true)
-      × (((fault ≡ Exhausted) × (MAX_COUNT < count_of part.sent part.colour + length (letters_for sim v part)))
-      ⊎ ((fault ≡ Memory) × (count_of part.sent part.colour + length (letters_for sim v part) ≤ MAX_COUNT))))
+      × (((fault ≡ Exhausted) × PassesIn sim (Send w v) (part_after_send sim v part) 0)
+      ⊎ ((fault ≡ Memory) × (PassesIn sim (Send w v) (part_after_send sim v part) 0 → ⊥))))
 
   -- Undo and Cancel at process p, as often as one is lawful: steps of these two kinds lead from one part to another, at which
   -- neither is lawful any more; so many of them were Undo, modulo 2^64

@@ -1,16 +1,16 @@
 //! Whether mail can leave for another worker.
 
-ghost use Rattle.std.specs.Prelude.{◌≡◌, ◌+◌, ◌≤◌, ◌⊎◌, true, length, IfOk, IfErr};
+ghost use Rattle.std.specs.Prelude.{◌≡◌, ◌⊎◌, true, IfOk, IfErr};
 ghost use Rattle.vt_key.specs.declared.fault.Fault.TheVariants.{NotLawful, Exhausted};
-ghost use Rattle.vt_key.specs.declared.limits.TheConstants.{MAX_COUNT};
 ghost use Rattle.vt_model.specs.Handler.{Handlers};
 ghost use Rattle.vt_model.specs.Simulation.{simulation_of};
-ghost use Rattle.vt_steps.specs.Letters.{count_of};
 ghost use Rattle.vt_steps.specs.World.{Part};
-ghost use Rattle.vt_steps.specs.PartSteps.{letters_for};
+ghost use Rattle.vt_steps.specs.PartSteps.{part_after_send};
 ghost use Rattle.vt_steps.specs.CellSteps.{may_send};
+ghost use Rattle.vt_steps.specs.declared.step.Step.TheVariants as step;
 ghost use Rattle.vt_kernel.specs.Held.{StandsFor};
 ghost use Rattle.vt_kernel.specs.Guards.{IsSendRefusal};
+ghost use Rattle.vt_kernel.specs.Refusals.{PassesIn};
 
 use crate::kernel::Kernel;
 use vt_key::Fault;
@@ -23,7 +23,7 @@ impl<M: EventModel> Kernel<M> {
     /// [`Fault::NotLawful`]: `v` is this worker, or the outbox holds no letter for a process of `v`. [`Fault::Exhausted`]: the
     /// count of mail sent would pass 2^63.
     pub fn may_send(&self, v: u32) -> Result<(), Fault>
-        ensures lawful { (handlers : Handlers _ _ _) (part : Part _) → StandsFor handlers self.now part → IfOk result (λ _. (may_send (simulation_of handlers self.now.config).workers self.now.worker v part.outbox ≡ true) × (count_of part.sent part.colour + length (letters_for (simulation_of handlers self.now.config) v part) ≤ MAX_COUNT)) }
+        ensures lawful { (handlers : Handlers _ _ _) (part : Part _) → StandsFor handlers self.now part → IfOk result (λ _. (may_send (simulation_of handlers self.now.config).workers self.now.worker v part.outbox ≡ true) × (PassesIn (simulation_of handlers self.now.config) (step.Send self.now.worker v) (part_after_send (simulation_of handlers self.now.config) v part) 0 → ⊥)) }
         ensures refused { (handlers : Handlers _ _ _) (part : Part _) → StandsFor handlers self.now part → IfErr result (λ fault. IsSendRefusal (simulation_of handlers self.now.config) self.now.worker v part fault) }
         ensures faults { IfErr result (λ fault. (fault ≡ NotLawful) ⊎ (fault ≡ Exhausted)) }
     {

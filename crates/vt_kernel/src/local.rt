@@ -8,7 +8,8 @@ ghost use Rattle.vt_steps.specs.World.{Part};
 ghost use Rattle.vt_steps.specs.Cells.{local_step};
 ghost use Rattle.vt_steps.specs.declared.step.Step.TheVariants as step;
 ghost use Rattle.vt_kernel.specs.Held.{StandsFor, process_of};
-ghost use Rattle.vt_kernel.specs.Guards.{IsDone, AreWithinLimits, IsExecuteRefusal};
+ghost use Rattle.vt_kernel.specs.Guards.{IsDone, IsExecuteRefusal};
+ghost use Rattle.vt_kernel.specs.Refusals.{PassesIn};
 
 use crate::kernel::Kernel;
 use std::alloc::Global;
@@ -28,7 +29,7 @@ impl<M: EventModel> Kernel<M> {
     /// process another state, since that model's `reverse` restores it.
     pub fn execute(&mut self, alloc: Global, model: &M, lp: u32) -> Result<(), Fault>
         ensures done { (part : Part _) → StandsFor (M.handlers model.now) self.old part → IfOk result (λ done. IsDone (M.handlers model.now) self.new (local_step (simulation_of (M.handlers model.now) self.old.config) self.old.worker (step.Execute lp) part)) }
-        ensures counted { (part : Part _) → StandsFor (M.handlers model.now) self.new part → IfOk result (λ done. AreWithinLimits (simulation_of (M.handlers model.now) self.old.config) lp part) }
+        ensures counted { (part : Part _) → StandsFor (M.handlers model.now) self.new part → IfOk result (λ done. PassesIn (simulation_of (M.handlers model.now) self.old.config) (step.Execute lp) part 0 → ⊥) }
         ensures refused { (part : Part _) → StandsFor (M.handlers model.now) self.old part → IfErr result (λ fault. IsExecuteRefusal (simulation_of (M.handlers model.now) self.old.config) lp (local_step (simulation_of (M.handlers model.now) self.old.config) self.old.worker (step.Execute lp) part) fault) }
         ensures faults { IfErr result (λ fault. (fault ≡ NotLawful) ⊎ ((fault ≡ Exhausted) ⊎ (fault ≡ Memory))) }
         ensures unchanged { (part : Part _) → StandsFor (M.handlers model.now) self.old part → IfErr result (λ fault. self.new ≡ self.old) }
@@ -52,7 +53,7 @@ impl<M: EventModel> Kernel<M> {
         out: &mut Out<M::Payload>,
     ) -> Result<(), Fault>
         ensures done { (part : Part _) → StandsFor (M.handlers model.now) self.old part → IfOk result (λ done. IsDone (M.handlers model.now) self.new (local_step (simulation_of (M.handlers model.now) self.old.config) self.old.worker (step.Execute lp) part)) }
-        ensures counted { (part : Part _) → StandsFor (M.handlers model.now) self.new part → IfOk result (λ done. AreWithinLimits (simulation_of (M.handlers model.now) self.old.config) lp part) }
+        ensures counted { (part : Part _) → StandsFor (M.handlers model.now) self.new part → IfOk result (λ done. PassesIn (simulation_of (M.handlers model.now) self.old.config) (step.Execute lp) part 0 → ⊥) }
         ensures refused { (part : Part _) → StandsFor (M.handlers model.now) self.old part → IfErr result (λ fault. IsExecuteRefusal (simulation_of (M.handlers model.now) self.old.config) lp (local_step (simulation_of (M.handlers model.now) self.old.config) self.old.worker (step.Execute lp) part) fault) }
         ensures faults { IfErr result (λ fault. (fault ≡ NotLawful) ⊎ ((fault ≡ Exhausted) ⊎ (fault ≡ Memory))) }
         ensures unchanged { (part : Part _) → StandsFor (M.handlers model.now) self.old part → IfErr result (λ fault. self.new ≡ self.old) }

@@ -4,16 +4,17 @@ ghost use Rattle.std.specs.Prelude.{◌≡◌, ℕ, ◌+◌, ◌<◌, ◌≤◌,
 ghost use Rattle.std.specs.Vec.{vec_capacity};
 ghost use Rattle.vt_key.specs.Times.{earlier};
 ghost use Rattle.vt_key.specs.declared.fault.Fault.TheVariants.{Memory, NotLawful, Exhausted};
-ghost use Rattle.vt_key.specs.declared.limits.TheConstants.{MAX_COUNT};
 ghost use Rattle.vt_model.specs.Handler.{Handlers};
 ghost use Rattle.vt_model.specs.Simulation.{simulation_of};
 ghost use Rattle.vt_model.specs.Settings.{end_of};
-ghost use Rattle.vt_steps.specs.Letters.{count_of, least_time, raised};
+ghost use Rattle.vt_steps.specs.Letters.{least_time, raised};
 ghost use Rattle.vt_steps.specs.World.{Part};
 ghost use Rattle.vt_steps.specs.PartSteps.{part_after_send, mail_of_send, is_for};
 ghost use Rattle.vt_steps.specs.CellSteps.{may_send};
+ghost use Rattle.vt_steps.specs.declared.step.Step.TheVariants as step;
 ghost use Rattle.vt_kernel.specs.Held.{StandsFor, AllOwnMail};
 ghost use Rattle.vt_kernel.specs.Guards.{mailed, IsSendRefusal};
+ghost use Rattle.vt_kernel.specs.Refusals.{PassesIn};
 
 use crate::kernel::Kernel;
 use vt_key::{Colour, Fault, Letter, Mail, When};
@@ -35,7 +36,7 @@ impl<M: EventModel> Kernel<M> {
         ensures mail { IfOk result (λ _. mail.new.items ≡ mail.old.items ++ map (mailed self.old.colour) (filter (is_for self.old.config.workers v) self.old.outbox)) }
         ensures own { IfOk result (λ _. AllOwnMail self.old.config v (map (mailed self.old.colour) (filter (is_for self.old.config.workers v) self.old.outbox))) }
         ensures done { (handlers : Handlers _ _ _) (part : Part _) → StandsFor handlers self.old part → IfOk result (λ _. (may_send (simulation_of handlers self.old.config).workers self.old.worker v part.outbox ≡ true) × StandsFor handlers self.new (part_after_send (simulation_of handlers self.old.config) v part) × (mail.new.items ≡ mail.old.items ++ mail_of_send (simulation_of handlers self.old.config) v part)) }
-        ensures counted { (handlers : Handlers _ _ _) (part : Part _) → StandsFor handlers self.new part → IfOk result (λ _. count_of part.sent part.colour ≤ MAX_COUNT) }
+        ensures counted { (handlers : Handlers _ _ _) (part : Part _) → StandsFor handlers self.new part → IfOk result (λ _. PassesIn (simulation_of handlers self.old.config) (step.Send self.old.worker v) part 0 → ⊥) }
         ensures refused { (handlers : Handlers _ _ _) (part : Part _) → StandsFor handlers self.old part → IfErr result (λ fault. IsSendRefusal (simulation_of handlers self.old.config) self.old.worker v part fault) }
         ensures faults { IfErr result (λ fault. (fault ≡ NotLawful) ⊎ ((fault ≡ Exhausted) ⊎ (fault ≡ Memory))) }
         ensures kept { IfErr result (λ fault. (self.new ≡ self.old) × (mail.new.items ≡ mail.old.items)) }

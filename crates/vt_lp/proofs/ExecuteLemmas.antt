@@ -201,7 +201,16 @@ module _ {S P K : Type 0} (handlers : Handlers S P K) where
                 | inr m ↦ inr (subst (λ n. MAX_COUNT < serial + n) (sym count) m)
               ],
             )
-            | inr x ↦ inr (x.0, record { number = subst (λ n. n ≤ MAX_COUNT) (sym number) x.1; serials = subst (λ n. serial + n ≤ MAX_COUNT) (sym count) x.2 })
+            | inr x ↦ inr (
+              x.0,
+              λ over.
+                  (let few = x.1 in
+                  let few_serials = x.2 in
+                  elim over [
+                    | inl m ↦ omega (arith, m, number, few)
+                    | inr m ↦ omega (arith, m, count, few_serials)
+                  ]),
+            )
           ]
 
       from : (ls : List (Letter P)) → held.pending ≡ ls → Some event ≡ ready_event ls held.past →

@@ -1,5 +1,5 @@
 -- What the calls of a process answer and leave, by the steps of a world's process.
-use Rattle.std.specs.Prelude.{◌≡◌, ℕ, ◌+◌, ◌<◌, ◌≤◌, ◌⊎◌, Bool, true, List, [], ◌∷◌, ◌++◌, if◌then◌else◌, Option, Some, None, slice_get}
+use Rattle.std.specs.Prelude.{◌≡◌, ℕ, ◌+◌, ◌<◌, ◌⊎◌, Bool, true, List, [], ◌∷◌, ◌++◌, if◌then◌else◌, Option, Some, None, slice_get}
 use Rattle.std.specs.List.{last_or}
 use Rattle.vt_key.specs.Order.{rank_before}
 use Rattle.vt_key.specs.Times.{Time}
@@ -33,11 +33,6 @@ module _ {S P : Type 0} (sim : Simulation S P) (p : ℕ) where
   abbrev pub number_of : LogicalProcess P → ℕ
   number_of process = (triple_after sim p (process.done ++ process.past)).number
 
-  -- after this effect the send number and the serial are within their limits
-  pub record IsCounted (serial : ℕ) (effect : ProcessEffect P) : Type 0 where
-    pub number : number_of effect.process ≤ MAX_COUNT
-    pub serials : serial + effect.serials ≤ MAX_COUNT
-
   -- after this effect the send number or the serial would pass its limit
   abbrev pub IsExhausted : ℕ → ProcessEffect P → Type 0
   IsExhausted serial effect = (MAX_COUNT < number_of effect.process) ⊎ (MAX_COUNT < serial + effect.serials)
@@ -46,7 +41,7 @@ module _ {S P : Type 0} (sim : Simulation S P) (p : ℕ) where
   abbrev pub IsExecuteRefusal : ℕ → Option (ProcessEffect P) → Fault → Type 0
   IsExecuteRefusal serial None fault = fault ≡ NotLawful
   IsExecuteRefusal serial (Some effect) fault =
-      ((fault ≡ Exhausted) × IsExhausted serial effect) ⊎ ((fault ≡ Memory) × IsCounted serial effect)
+      ((fault ≡ Exhausted) × IsExhausted serial effect) ⊎ ((fault ≡ Memory) × (IsExhausted serial effect → ⊥))
 
 module _ {P K : Type 0} where
   -- an event of this rank may follow the last past event, or none at all

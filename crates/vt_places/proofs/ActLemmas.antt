@@ -18,8 +18,9 @@ use Rattle.vt_steps.specs.PartSteps.{is_for, part_after_fetch}
 use Rattle.vt_steps.specs.CellSteps.{may_send}
 use Rattle.vt_steps.specs.Cells.{in_inbox}
 use Rattle.vt_kernel.specs.Held.{HeldWorker, StandsFor}
+use Rattle.vt_kernel.specs.Refusals.{PassesIn}
 use Rattle.vt_places.specs.declared.view.View.{View}
-use Rattle.vt_cells.specs.Calls.{Acts, PassesThere}
+use Rattle.vt_cells.specs.Calls.{Acts}
 use Rattle.vt_cells.proofs.ActLemmas.{act-fetch}
 use Rattle.vt_places.specs.Calls.{Reaches}
 
@@ -66,9 +67,9 @@ fetches-nothing handlers config w k empty = record {
 }
 
 -- it takes no count past its limit
-pub nothing-passes : {S P K : Type 0} (handlers : Handlers S P K) (w : ℕ) (k : HeldWorker S P K) (part new : Part P) → StandsFor handlers k part → StandsFor handlers k new
-    → PassesThere (Fetch w) new (in_inbox []) → PassesThere (Fetch w) part (in_inbox [])
-nothing-passes handlers w k part new was is past = subst (λ (n : Counts). (MAX_COUNT < n.white) ⊎ (MAX_COUNT < n.red)) (is.got ∙ sym was.got) past
+pub nothing-passes : {S P K : Type 0} (handlers : Handlers S P K) (config : Config) (w : ℕ) (k : HeldWorker S P K) (part new : Part P) → StandsFor handlers k part → StandsFor handlers k new
+    → PassesIn (simulation_of handlers config) (Fetch w) new 0 → PassesIn (simulation_of handlers config) (Fetch w) part 0
+nothing-passes handlers config w k part new was is past = subst (λ (n : Counts). (MAX_COUNT < n.white) ⊎ (MAX_COUNT < n.red)) (is.got ∙ sym was.got) past
 
 module _ {S P K : Type 0} {handlers : Handlers S P K} {config : Config} {view : View P} {k : HeldWorker S P K} (r : Reaches handlers config view k) where
   -- the kernel of a place sends to a worker of the run

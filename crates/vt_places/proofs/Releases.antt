@@ -25,7 +25,8 @@ use Rattle.vt_places.specs.declared.view.View.{View}
 use Rattle.vt_places.specs.Hands.{empty_hand}
 use Rattle.vt_places.specs.Slots.{cell_count, word_at, empty_word, claimed_word, home_word, cell_at, held_in}
 use Rattle.vt_places.specs.Kept.{Sat, HasGrown, IsTableRight, Rests}
-use Rattle.vt_cells.specs.Calls.{Acts, PassesThere, IsCellStepOf}
+use Rattle.vt_kernel.specs.Refusals.{PassesIn}
+use Rattle.vt_cells.specs.Calls.{Acts, rounds_of, IsCellStepOf}
 use Rattle.vt_places.specs.Calls.{Unvisited, Closes, Known, Reaches, Visited, Holding, ShowsFloor, MaySee}
 use Rattle.vt_places.proofs.Growth.{grown-not}
 use Rattle.vt_places.proofs.Keeps.{releases, Looked, looks}
@@ -69,7 +70,9 @@ module _ {S P K : Type 0} (handlers : Handlers S P K) (config : Config) (lawful 
 
   -- whatever parts a kernel stood for and stands for now, no counter is past its limit that wasn't so before
   abbrev AreWithin : Step → HeldWorker S P K → Cell P → HeldWorker S P K → Cell P → Type 0
-  AreWithin step before found left now = (part new : Part P) → StandsFor handlers before part → StandsFor handlers left new → PassesThere step new now → PassesThere step part found
+  AreWithin step before found left now =
+      let sim = simulation_of handlers config in
+      (part new : Part P) → StandsFor handlers before part → StandsFor handlers left new → PassesIn sim step new (rounds_of now) → PassesIn sim step part (rounds_of found)
 
   -- what local steps and then one step at the cell leave of the view, where the cell had this in it
   visited-at : (k : ℕ) (v : View P) (found now : Cell P) (before left : HeldWorker S P K) (step : Step) (reply : Reply) → IsAny (cell_of (simulation_of handlers config) step) (cell_at config.workers k)

@@ -1,12 +1,11 @@
 -- What the calls of a station answer and leave.
-use Rattle.std.specs.Prelude.{◌≡◌, ℕ, ◌+◌, ◌^◌, ◌<◌, ◌≤◌, ◌⊎◌, true, false, List, [], ◌∷◌, ◌++◌, map, length, drop, Option, Some, Result, Ok, Err, slice_get, IfSome}
+use Rattle.std.specs.Prelude.{◌≡◌, ℕ, ◌^◌, ◌<◌, ◌≤◌, ◌⊎◌, true, false, List, [], ◌∷◌, ◌++◌, map, length, drop, Option, Some, Result, Ok, Err, slice_get, IfSome}
 use Rattle.std.specs.Result.{IsErrAnd}
 use Rattle.std.specs.List.{AllByRecursion}
 use Rattle.vt_key.specs.Times.{Time, TimeAtMost, TimeBefore}
 use Rattle.vt_key.specs.declared.fault.Fault.{Fault}
 use Rattle.vt_key.specs.declared.fault.Fault.TheVariants.{Memory, NotLawful, Busy, Closed, Exhausted}
 use Rattle.vt_key.specs.declared.letter.Mail.{Mail}
-use Rattle.vt_key.specs.declared.limits.TheConstants.{MAX_COUNT}
 use Rattle.vt_model.specs.declared.rows.Record.{Record}
 use Rattle.vt_model.specs.declared.settings.Config.{Config}
 use Rattle.vt_model.specs.Handler.{Handlers}
@@ -14,12 +13,12 @@ use Rattle.vt_model.specs.Histories.{IsLawful}
 use Rattle.vt_model.specs.Simulation.{Simulation, simulation_of}
 use Rattle.vt_model.specs.Sequential.{seq_records}
 use Rattle.vt_steps.specs.declared.step.Step.{Step}
-use Rattle.vt_steps.specs.declared.step.Step.TheVariants.{Cut, Report, Commit, Close}
+use Rattle.vt_steps.specs.declared.step.Step.TheVariants.{Send, Cut, Report, Commit, Close}
 use Rattle.vt_steps.specs.declared.step.Reply.{Reply}
 use Rattle.vt_steps.specs.declared.step.Reply.TheVariants.{Done}
 use Rattle.vt_steps.specs.World.{Part, World, book_floor}
-use Rattle.vt_steps.specs.Letters.{is_empty, count_of}
-use Rattle.vt_steps.specs.PartSteps.{letters_for}
+use Rattle.vt_steps.specs.Letters.{is_empty}
+use Rattle.vt_steps.specs.PartSteps.{part_after_send}
 use Rattle.vt_steps.specs.CellSteps.{may_send}
 use Rattle.vt_steps.specs.Next.{next, run, reached}
 use Rattle.vt_steps.specs.Cells.{Cell, in_inbox, in_book, content, cell_of, act, local_steps}
@@ -27,8 +26,8 @@ use Rattle.vt_steps.specs.Laws.{IsAny}
 use Rattle.vt_steps.specs.Marked.{Marked, marked, answered, made_done, IsMarkedRight, own_steps_of, shown, has_cut_since, has_closed}
 use Rattle.vt_kernel.specs.Held.{HeldWorker, StandsFor}
 use Rattle.vt_kernel.specs.Guards.{IsSendRefusal}
-use Rattle.vt_kernel.specs.Refusals.{IsStepRefusal}
-use Rattle.vt_cells.specs.Calls.{Acts, IsTooMuchMail, PassesThere}
+use Rattle.vt_kernel.specs.Refusals.{PassesIn, IsStepRefusal}
+use Rattle.vt_cells.specs.Calls.{Acts, IsTooMuchMail, rounds_of}
 use Rattle.vt_places.specs.declared.slot.Slot.{Slot}
 use Rattle.vt_places.specs.declared.view.View.{View}
 use Rattle.vt_places.specs.Hands.{Hand, empty_hand, holding}
@@ -138,7 +137,7 @@ module _ {S P K : Type 0} (handlers : Handlers S P K) (config : Config) where
     pub does : Acts handlers config step reply before at.found left at.now
     pub stands : StandsFor handlers left w.part
     -- the step takes no counter past its limit: one that is past it now was so before
-    pub within : PassesThere step w.part at.now → PassesThere step part at.found
+    pub within : PassesIn (simulation_of handlers config) step w.part (rounds_of at.now) → PassesIn (simulation_of handlers config) step part (rounds_of at.found)
 
   -- the same, and the place holds nothing and was shown this floor
   pub record Visited (v : View P) (before : HeldWorker S P K) (step : Step) (reply : Reply) (left : HeldWorker S P K) (seen : Time) (w : View P) : Type 0 where
@@ -183,7 +182,7 @@ module _ {S P : Type 0} (sim : Simulation S P) where
   abbrev pub IsPostRefusal : ℕ → ℕ → Part P → Fault → Type 0
   IsPostRefusal w v part fault =
       IsSendRefusal sim w v part fault
-      ⊎ ((fault ≡ Busy) × (1 < sim.workers) × (may_send sim.workers w v part.outbox ≡ true) × (count_of part.sent part.colour + length (letters_for sim v part) ≤ MAX_COUNT))
+      ⊎ ((fault ≡ Busy) × (1 < sim.workers) × (may_send sim.workers w v part.outbox ≡ true) × (PassesIn sim (Send w v) (part_after_send sim v part) 0 → ⊥))
 
   -- why a fetch is refused: what arrived before is not accepted yet; or it is, and the cell was claimed by another place; or
   -- the mail in the worker's inbox, after a list of steps in which the place's are its own, would take a count past its limit

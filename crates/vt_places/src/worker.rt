@@ -14,7 +14,8 @@ ghost use Rattle.vt_steps.specs.declared.step.Step.TheVariants as step;
 ghost use Rattle.vt_steps.specs.declared.step.Reply.TheVariants as reply;
 ghost use Rattle.vt_board.specs.Calls.{reply_of};
 ghost use Rattle.vt_kernel.specs.Held.{StandsFor};
-ghost use Rattle.vt_kernel.specs.Guards.{IsDone, AreWithinLimits, IsExecuteRefusal, IsAcceptRefusal, SettlesTo};
+ghost use Rattle.vt_kernel.specs.Guards.{IsDone, IsExecuteRefusal, IsAcceptRefusal, SettlesTo};
+ghost use Rattle.vt_kernel.specs.Refusals.{PassesIn};
 ghost use Rattle.vt_places.specs.Told.{station_model, station_config, station_table, place_table, place_view};
 ghost use Rattle.vt_places.specs.Making.{IsNew};
 ghost use Rattle.vt_places.specs.Calls.{Reaches, Visited, Closes, Unvisited, Stays, ShowsFloor, IsPostRefusal, IsFetchRefusal, IsCutRefusal, IsReportRefusal, IsCommitRefusal, IsCloseRefusal, IsRecordsRefusal, IsHandOutRefusal, IsFloorLeft, AreRecordsShown, AreHandedOut, IsRefusedOnceClosed, IsRefusedAlone};
@@ -133,7 +134,7 @@ impl<'a, M: EventModel> Worker<'a, M> {
     pub fn execute(&mut self, lp: u32) -> Result<(), Fault>
         ensures place { IsAtSamePlace self.old self.new }
         ensures done { (part : Part _) → StandsFor (M.handlers self.old.model) self.old.kernel part → IfOk result (λ done. IsDone (M.handlers self.old.model) self.new.kernel (local_step (simulation_of (M.handlers self.old.model) self.old.kernel.config) self.old.kernel.worker (step.Execute lp) part)) }
-        ensures counted { (part : Part _) → StandsFor (M.handlers self.old.model) self.new.kernel part → IfOk result (λ done. AreWithinLimits (simulation_of (M.handlers self.old.model) self.old.kernel.config) lp part) }
+        ensures counted { (part : Part _) → StandsFor (M.handlers self.old.model) self.new.kernel part → IfOk result (λ done. PassesIn (simulation_of (M.handlers self.old.model) self.old.kernel.config) (step.Execute lp) part 0 → ⊥) }
         ensures refused { (part : Part _) → StandsFor (M.handlers self.old.model) self.old.kernel part → IfErr result (λ fault. IsExecuteRefusal (simulation_of (M.handlers self.old.model) self.old.kernel.config) lp (local_step (simulation_of (M.handlers self.old.model) self.old.kernel.config) self.old.kernel.worker (step.Execute lp) part) fault) }
         ensures kept { IfErr result (λ _. self.new.kernel ≡ self.old.kernel) }
     {
@@ -145,7 +146,7 @@ impl<'a, M: EventModel> Worker<'a, M> {
     pub fn execute_reusing(&mut self, lp: u32, out: &mut Out<M::Payload>) -> Result<(), Fault>
         ensures place { IsAtSamePlace self.old self.new }
         ensures done { (part : Part _) → StandsFor (M.handlers self.old.model) self.old.kernel part → IfOk result (λ done. IsDone (M.handlers self.old.model) self.new.kernel (local_step (simulation_of (M.handlers self.old.model) self.old.kernel.config) self.old.kernel.worker (step.Execute lp) part)) }
-        ensures counted { (part : Part _) → StandsFor (M.handlers self.old.model) self.new.kernel part → IfOk result (λ done. AreWithinLimits (simulation_of (M.handlers self.old.model) self.old.kernel.config) lp part) }
+        ensures counted { (part : Part _) → StandsFor (M.handlers self.old.model) self.new.kernel part → IfOk result (λ done. PassesIn (simulation_of (M.handlers self.old.model) self.old.kernel.config) (step.Execute lp) part 0 → ⊥) }
         ensures refused { (part : Part _) → StandsFor (M.handlers self.old.model) self.old.kernel part → IfErr result (λ fault. IsExecuteRefusal (simulation_of (M.handlers self.old.model) self.old.kernel.config) lp (local_step (simulation_of (M.handlers self.old.model) self.old.kernel.config) self.old.kernel.worker (step.Execute lp) part) fault) }
         ensures kept { IfErr result (λ _. self.new.kernel ≡ self.old.kernel) }
     {

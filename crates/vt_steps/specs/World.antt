@@ -178,9 +178,4 @@ opening_book workers = record { rows = []; floors = replicate workers opening_ti
 -- the opening world: each worker's serials begin with this one
 unfoldable pub opening_world : {S P : Type 0} → Simulation S P → ℕ → World P
 opening_world sim serial =
-    record {
-      parts = map (opening_part sim serial) (range_with_len 0 sim.workers);
-      inboxes = replicate sim.workers [];
-      board = opening_board sim.workers sim.end;
-      book = opening_book sim.workers;
-    }
+    record { parts = map (opening_part sim serial) (range_with_len 0 sim.workers); inboxes = replicate sim.workers []; board = opening_board sim.workers sim.end; book = opening_book sim.workers }

@@ -1,6 +1,7 @@
 -- What steps are answered, one after the other, and the lines of the answers.
-use Rattle.std.proofs.Common.{◌≡◌, ℕ, ◌+◌, ◌<◌, ◌⊎◌, ◌/◌, ◌%◌, Bool, true, false, List, [], ◌∷◌, ◌++◌, length, take, drop, get_or, Option, Some, None, slice_get, Result, Ok, Err, ap, sym, subst, ◌∙◌, refl, inl, inr, append_assoc, append-nil, arith, take-append-drop}
+use Rattle.std.proofs.Common.{◌≡◌, ℕ, ◌+◌, ◌<◌, ◌⊎◌, ◌/◌, Bool, true, false, List, [], ◌∷◌, ◌++◌, length, take, drop, get_or, Option, Some, None, slice_get, Result, Ok, Err, ap, sym, subst, ◌∙◌, refl, inl, inr, append_assoc, append-nil, arith, take-append-drop}
 use Rattle.std.specs.Prelude.{IsTrue, if◌then◌else◌}
+use Rattle.std.specs.Option.{IsSomeAnd, option_and_then}
 use Rattle.std.proofs.lemmas.List.{take_more}
 use Rattle.std.proofs.lemmas.Grind.{flat_map-append}
 use Rattle.vt_key.specs.declared.fault.Fault.{Fault}
@@ -12,10 +13,11 @@ use Rattle.vt_steps.specs.declared.step.Step.{Step}
 use Rattle.vt_steps.specs.declared.step.Step.TheVariants.{Execute, Undo, Cancel, Home, Send, Fetch, Accept, Cut, Report, Commit, Close}
 use Rattle.vt_steps.specs.Letters.{count_of}
 use Rattle.vt_lp.specs.Guards.{number_of}
-use Rattle.vt_kernel.specs.Refusals.{IsSpent, PassesLimit}
+use Rattle.vt_kernel.specs.Refusals.{IsSpent, PassesIn, PassesLimit}
 use Rattle.vt_steps.specs.declared.step.Reply.{Reply}
-use Rattle.vt_steps.specs.World.{World}
+use Rattle.vt_steps.specs.World.{Part, World}
 use Rattle.vt_steps.specs.Next.{Outcome, next}
+use Rattle.vt_steps.specs.Cells.{worker_of}
 use Rattle.vt_steps.proofs.steps.Refusals.{refusals}
 use Rattle.vt_world.specs.Calls.{RunWorld, IsStepOf}
 use Rattle.vt_step_text.specs.declared.reading.NumberedStep.{NumberedStep}
@@ -46,26 +48,26 @@ one_or_none (inr n) (inl b) = inl (inr b)
 one_or_none (inr n) (inr m) = inr (λ h. elim h [ inl a ↦ n a | inr b ↦ m b ])
 
 -- of what may be there
-of_found : {X : Type 0} (Q : X → Type 0) → ((x : X) → Decided (Q x)) → (o : Option X) → Decided ((x : X) × (o ≡ Some x) × Q x)
-of_found Q decide None = inr (λ h. let e : None ≡ Some h.0 = h.1 in absurd cc)
-of_found Q decide (Some x) = elim (decide x) [
-  | inl q ↦ inl (x, refl, q)
-  | inr n ↦ inr (λ h. let e : Some x ≡ Some h.0 = h.1 in let at : x ≡ h.0 = cc in n (subst Q (sym at) h.2))
-]
+some_or_not : {X : Type 0} (Q : X → Type 0) → ((x : X) → Decided (Q x)) → (o : Option X) → Decided (IsSomeAnd o Q)
+some_or_not Q decide None = inr (λ h. h)
+some_or_not Q decide (Some x) = decide x
+
+passes_in_or_not : {S P : Type 0} (sim : Simulation S P) (step : Step) (part : Part P) (rounds : ℕ) → Decided (PassesIn sim step part rounds)
+passes_in_or_not sim (Execute p) part rounds =
+    one_or_none (past_or_within part.serial) (some_or_not _ (λ process. past_or_within (number_of sim p process)) (slice_get part.processes (p / sim.workers)))
+passes_in_or_not sim (Send w v) part rounds = past_or_within (count_of part.sent part.colour)
+passes_in_or_not sim (Fetch w) part rounds = one_or_none (past_or_within part.got.white) (past_or_within part.got.red)
+passes_in_or_not sim (Cut w) part rounds = past_or_within rounds
+passes_in_or_not sim (Undo p) part rounds = inr (λ h. h)
+passes_in_or_not sim (Cancel p stamp) part rounds = inr (λ h. h)
+passes_in_or_not sim (Home w) part rounds = inr (λ h. h)
+passes_in_or_not sim (Accept w i) part rounds = inr (λ h. h)
+passes_in_or_not sim (Report w) part rounds = inr (λ h. h)
+passes_in_or_not sim (Commit w) part rounds = inr (λ h. h)
+passes_in_or_not sim Close part rounds = inr (λ h. h)
 
 passes_or_not : {S P : Type 0} (sim : Simulation S P) (step : Step) (after : World P) → Decided (PassesLimit sim step after)
-passes_or_not sim (Execute p) after =
-    of_found _ (λ part. one_or_none (past_or_within part.serial) (of_found _ (λ process. past_or_within (number_of sim p process)) (slice_get part.processes (p / sim.workers)))) (slice_get after.parts (p % sim.workers))
-passes_or_not sim (Send w v) after = of_found _ (λ part. past_or_within (count_of part.sent part.colour)) (slice_get after.parts w)
-passes_or_not sim (Fetch w) after = of_found _ (λ part. one_or_none (past_or_within part.got.white) (past_or_within part.got.red)) (slice_get after.parts w)
-passes_or_not sim (Cut w) after = past_or_within after.board.rounds
-passes_or_not sim (Undo p) after = inr (λ h. h)
-passes_or_not sim (Cancel p stamp) after = inr (λ h. h)
-passes_or_not sim (Home w) after = inr (λ h. h)
-passes_or_not sim (Accept w i) after = inr (λ h. h)
-passes_or_not sim (Report w) after = inr (λ h. h)
-passes_or_not sim (Commit w) after = inr (λ h. h)
-passes_or_not sim Close after = inr (λ h. h)
+passes_or_not sim step after = some_or_not _ (λ part. passes_in_or_not sim step part after.board.rounds) (option_and_then (slice_get after.parts) (worker_of sim step))
 
 module _ {S P : Type 0} (sim : Simulation S P) where
   -- no step

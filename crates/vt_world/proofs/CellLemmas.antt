@@ -19,9 +19,9 @@ use Rattle.vt_steps.specs.Cells.{CellName, inbox_of, board_cell, book_cell, Cell
 use Rattle.vt_steps.specs.Laws.{IsAny}
 use Rattle.vt_steps.specs.StandsFor.{GoesOn}
 use Rattle.vt_kernel.specs.Held.{HeldWorker, AllOwnMail}
-use Rattle.vt_kernel.specs.Refusals.{PassesLimit, IsStepRefusal}
+use Rattle.vt_kernel.specs.Refusals.{PassesIn, PassesLimit, IsStepRefusal}
 use Rattle.vt_kernel.proofs.SettlingLemmas.{put-there}
-use Rattle.vt_cells.specs.Calls.{IsCellStepOf, PassesThere, AreOfOneWorld}
+use Rattle.vt_cells.specs.Calls.{IsCellStepOf, rounds_of, AreOfOneWorld}
 use Rattle.vt_cells.proofs.BookSteps.{close-step}
 use Rattle.vt_cells.proofs.WorldLemmas.{next-put_back, limit-there, refused-there}
 use Rattle.vt_world.specs.Held.{HeldWorld, held_world, world_memory, StandsForWorld, IsHeldStepOf, AreInboxes, IsWorldInside}
@@ -103,7 +103,7 @@ module _ {M S P K : Type 0} (meaning : M → Handlers S P K) {held : HeldWorld M
   few-there reply s world h past =
       let f = found (meaning held.model) held world w k inside.own_workers h at in
       let a = s.done.acts f.part f.stands in
-      s.within a.0 a.2 (subst (λ (x : Acted P). PassesThere (step_of w) x.part x.cell) a.1 (limit-there sim world (step_of w) w whose named f.there (p.holds world h) past))
+      s.within a.0 a.2 (subst (λ (x : Acted P). PassesIn sim (step_of w) x.part (rounds_of x.cell)) a.1 (limit-there sim world (step_of w) w whose named f.there (p.holds world h) past))
 
   why-there : (fault : Fault) → IsCellStepOf (meaning held.model) held.config (step_of w) k new cell left (Err fault)
       → (world : World P) → StandsForWorld (meaning held.model) held world → IsStepRefusal sim (step_of w) world fault

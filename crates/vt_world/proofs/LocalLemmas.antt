@@ -1,9 +1,8 @@
 -- The local steps of a worker as steps of the world.
-use Rattle.std.proofs.Common.{◌≡◌, ℕ, ◌/◌, ◌%◌, ◌<◌, inl, inr, refl, sym, ◌∙◌, ap, subst, arith, Option, Some, None, Result, Ok, Err, IsErrAnd, slice_get, slice_set}
+use Rattle.std.proofs.Common.{◌≡◌, ℕ, ◌%◌, inl, inr, refl, sym, ◌∙◌, ap, subst, Option, Some, None, Result, Ok, Err, IsErrAnd, slice_get, slice_set}
 use Rattle.std.proofs.Math.Logic.{∥∥₁_map}
 use Rattle.std.specs.Option.{option_map}
 use Rattle.vt_key.specs.Times.{Time}
-use Rattle.vt_key.specs.declared.limits.TheConstants.{MAX_COUNT}
 use Rattle.vt_key.specs.declared.fault.Fault.{Fault}
 use Rattle.vt_key.specs.declared.fault.Fault.TheVariants.{NotLawful}
 use Rattle.vt_model.specs.declared.settings.Config.{Config}
@@ -13,14 +12,14 @@ use Rattle.vt_steps.specs.declared.step.Step.{Step}
 use Rattle.vt_steps.specs.declared.step.Step.TheVariants.{Execute, Accept}
 use Rattle.vt_steps.specs.declared.step.Reply.{Reply}
 use Rattle.vt_steps.specs.declared.step.Reply.TheVariants.{Done}
-use Rattle.vt_steps.specs.World.{LogicalProcess, Part, World}
+use Rattle.vt_steps.specs.World.{Part, World}
 use Rattle.vt_steps.specs.Next.{Outcome, next, reached, replied, with_part, done_or_refused}
 use Rattle.vt_steps.specs.StandsFor.{GoesOn}
 use Rattle.vt_steps.specs.Cells.{local_step}
-use Rattle.vt_lp.specs.Guards.{number_of}
 use Rattle.vt_kernel.specs.Held.{HeldWorker, StandsFor as WorkerStandsFor}
 use Rattle.vt_kernel.specs.Guards.{IsDone, IsExecuteRefusal, IsAcceptRefusal}
-use Rattle.vt_kernel.specs.Refusals.{IsStepRefusal, PassesLimit}
+use Rattle.vt_kernel.specs.Refusals.{IsStepRefusal, PassesIn, PassesLimit}
+use Rattle.vt_kernel.proofs.LimitLemmas.{passes-none, passes-world, passes-part}
 use Rattle.vt_steps.proofs.lists.Places.{get-put_same}
 use Rattle.vt_world.specs.Held.{HeldWorld, world_memory, StandsForWorld, IsReached, IsHeldStepOf, IsWorldInside}
 use Rattle.vt_world.proofs.WorldLemmas.{IsSame, IsLocalAt, IsFound, found, next-locally, local-done, local-refused}
@@ -57,51 +56,19 @@ module _ {M S P K : Type 0} {handlers : Handlers S P K} {held : HeldWorld M S P 
       go None e r = inl (ap (λ (o : Outcome P). o.answer) (locally-is world w (Execute p) f.part None own f.there e) ∙ ap Err (sym r))
       go (Some after) e r =
           let next_is : next sim world (Execute p) ≡ replied (with_part world w after) Done = locally-is world w (Execute p) f.part (Some after) own f.there e in
-          let there : slice_get (slice_set world.parts w after) (p % held.config.workers) ≡ Some after = ap (slice_get (slice_set world.parts w after)) own ∙ get-put_same world.parts w f.part after f.there in
-          let answer = ap (λ (o : Outcome P). o.answer) next_is in
-          elim r.2 [
-            | inl a ↦
-                inr (
-                  Done,
-                  answer,
-                  inl (
-                    a.0,
-                    subst (λ (o : Outcome P). PassesLimit sim (Execute p) o.world) (sym next_is) (
-                      after,
-                      there,
-                      elim a.1 [
-                        | inl b ↦ inr (r.1.0, r.1.1, subst (λ n. MAX_COUNT < n) r.1.2 b)
-                        | inr b ↦ inl b
-                      ],
-                    ),
-                  ),
-                )
-            | inr a ↦
-                inr (
-                  Done,
-                  answer,
-                  inr (
-                    a.0,
-                    tt,
-                    λ past.
-                        (let q = subst (λ (o : Outcome P). PassesLimit sim (Execute p) o.world) next_is past in
-                        let same : Some after ≡ Some q.0 = sym there ∙ q.1 in
-                        let e2 : after ≡ q.0 = cc in
-                        let few = a.2 in
-                        let few_sent = a.1 in
-                        elim q.2 [
-                          | inl b ↦ (let b2 : MAX_COUNT < after.serial = subst (λ (x : Part P). MAX_COUNT < x.serial) (sym e2) b in omega (arith, b2, few))
-                          | inr b ↦
-                              (let here : slice_get after.processes (p / held.config.workers) ≡ Some b.0 = ap (λ (x : Part P). slice_get x.processes (p / held.config.workers)) e2 ∙ b.1 in
-                              let same2 : Some r.1.0 ≡ Some b.0 = sym r.1.1 ∙ here in
-                              let e3 : r.1.0 ≡ b.0 = cc in
-                              let b3 : MAX_COUNT < number_of sim p r.1.0 = subst (λ (x : LogicalProcess P). MAX_COUNT < number_of sim p x) (sym e3) b.2 in
-                              let number = r.1.2 in
-                              omega (arith, b3, few_sent, number))
-                        ]),
-                  ),
-                )
-          ]
+          let there : slice_get (with_part world w after).parts w ≡ Some after = get-put_same world.parts w f.part after f.there in
+          inr (
+            Done,
+            ap (λ (o : Outcome P). o.answer) next_is,
+            elim r [
+              | inl a ↦ inl (a.0, subst (λ (o : Outcome P). PassesLimit sim (Execute p) o.world) (sym next_is) (passes-world sim (Execute p) (with_part world w after) (ap Some own) there a.1))
+              | inr a ↦ inr (
+                a.0,
+                tt,
+                λ past. a.1 (passes-part sim (Execute p) (with_part world w after) (ap Some own) there (subst (λ (o : Outcome P). PassesLimit sim (Execute p) o.world) next_is past)),
+              )
+            ],
+          )
 
   -- why Accept is refused
   pub accept-why : (w : ℕ) {k : HeldWorker S P K} → slice_get held.workers w ≡ Some k → (i : ℕ) (fault : Fault)
@@ -123,7 +90,12 @@ module _ {M S P K : Type 0} {handlers : Handlers S P K} {held : HeldWorld M S P 
 
       go : (after : Option (Part P)) → local_step sim w (Accept w i) f.part ≡ after → IsAcceptRefusal after fault → IsStepRefusal sim (Accept w i) world fault
       go None e r = inl (ap (λ (o : Outcome P). o.answer) (locally-is world w (Accept w i) f.part None refl f.there e) ∙ ap Err (sym r))
-      go (Some after) e r = inr (Done, ap (λ (o : Outcome P). o.answer) (locally-is world w (Accept w i) f.part (Some after) refl f.there e), inr (r, tt, λ past. past))
+      go (Some after) e r =
+          inr (
+            Done,
+            ap (λ (o : Outcome P). o.answer) (locally-is world w (Accept w i) f.part (Some after) refl f.there e),
+            inr (r, tt, passes-none sim (Accept w i) (next sim world (Accept w i)).world (λ part rounds over. over)),
+          )
 
 module _ {M S P K : Type 0} {handlers : Handlers S P K} {held : HeldWorld M S P K} {board_end book_end : Time} (inside : IsWorldInside handlers held board_end book_end) (w : ℕ) {k : HeldWorker S P K} (at : slice_get held.workers w ≡ Some k) where
   -- what a world keeps to after a local step
@@ -158,6 +130,13 @@ module _ {M S P K : Type 0} (meaning : M → Handlers S P K) {held seen : HeldWo
   does-locally same done few =
       let goes = local-done inside w at step is new same done in
       step-done meaning seen_is (record held { workers = slice_set held.workers w new }) step Done goes refl refl (λ world h. few (next (simulation_of (meaning held.model) held.config) world step).world (goes world h).1)
+
+  -- it raises none
+  pub does-quietly : IsSame new k
+      → ((part : Part P) → WorkerStandsFor (meaning held.model) k part → IsDone (meaning held.model) new (local_step (simulation_of (meaning held.model) k.config) k.worker step part))
+      → ((part : Part P) (rounds : ℕ) → PassesIn (simulation_of (meaning held.model) held.config) step part rounds → ⊥)
+      → IsHeldStepOf (meaning seen.model) step seen (record held { workers = slice_set held.workers w new }) (Ok Done)
+  does-quietly same done none = does-locally same done (λ after h. passes-none (simulation_of (meaning held.model) held.config) step after none)
 
   -- it isn't lawful for the worker
   pub refuses-locally : (fault : Fault) (result : Result Reply Fault) → IsErrAnd result (λ e. e ≡ fault) → (fault ≡ NotLawful) × (new ≡ k)

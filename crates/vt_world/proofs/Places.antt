@@ -18,10 +18,6 @@ use Rattle.vt_world.proofs.WorldLemmas.{IsSame, worker-at, workers-changed}
 use Rattle.vt_world.proofs.WorldSteps.{who}
 use Rattle.vt_world.proofs.StepLemmas.{inside-stepped}
 
--- what is there is one
-pub same-there : {X : Type 0} (xs : List X) (i : ℕ) (x y : X) → slice_get xs i ≡ Some x → slice_get xs i ≡ Some y → x ≡ y
-same-there xs i x y h k = let e : Some x ≡ Some y = sym h ∙ k in let same : x ≡ y = cc in same
-
 module _ {P : Type 0} (config : Config) where
   -- the inbox at a place holds mail for its worker
   pub inbox-at : (base w : ℕ) (inboxes : List (List (Mail P))) (inbox : List (Mail P)) → AreInboxes config base inboxes → slice_get inboxes w ≡ Some inbox → AllOwnMail config (base + w) inbox

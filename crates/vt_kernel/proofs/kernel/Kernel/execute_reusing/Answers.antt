@@ -12,7 +12,8 @@ use Rattle.vt_steps.proofs.lists.Places.{get-put_same}
 use Rattle.vt_lp.specs.Held.{HeldProcess}
 use Rattle.vt_lp.specs.Guards.{IsDone as ProcessIsDone, IsExecuteRefusal as ProcessRefusal}
 use Rattle.vt_kernel.specs.Held.{HeldWorker, StandsFor, process_of}
-use Rattle.vt_kernel.specs.Guards.{IsDone, AreWithinLimits, IsExecuteRefusal}
+use Rattle.vt_kernel.specs.Guards.{IsDone, IsExecuteRefusal}
+use Rattle.vt_kernel.specs.Refusals.{PassesIn}
 use Rattle.vt_model.proofs.Sizes.{out_fits}
 use Rattle.vt_kernel.proofs.PartLemmas.{stands_along}
 use Rattle.vt_kernel.proofs.ProcessLemmas.{process-at, processes-changed}
@@ -96,7 +97,7 @@ returns-clause-counted g c part s =
     let held = record (view_of i) { processes = processes; outbox = c.put.new.self.letters; serial = c.execute_reusing-result.new.serial } in
     let are = processes-changed i.config i.worker 0 c.in-Some.place i.processes.items new c.self.invariant.own_processes (same.0 ∙ who.0) (same.1 ∙ who.1) in
     let f = found-at handlers held are part s own (get-put_same i.processes.items c.in-Some.place old new at) in
-    subst (λ (v : HeldWorker _ _ _). IfOk c.execute_reusing-result.result (λ _. AreWithinLimits (simulation_of handlers v.config) c.args.lp part)) c.self.view_is
+    subst (λ (v : HeldWorker _ _ _). IfOk c.execute_reusing-result.result (λ _. PassesIn (simulation_of handlers v.config) (step.Execute c.args.lp) part 0 → ⊥)) c.self.view_is
     (IfOk-weaker c.execute_reusing-result.result _ _ (λ _ counted. within-limits handlers held part c.args.lp new s f counted.0 counted.1) c.execute_reusing-result.ensures.counted)
 
 pub returns-clause-refused : goal.returns-clause-refused

@@ -99,7 +99,8 @@ returns-clause-counted g c handlers part s =
     let few : count_of k.sent k.colour + c.in_ok-count.count ≤ MAX_COUNT = omega (arith, c.room-room.ensures, count.1) in
     let within : AreCounted c.raise.new.self = rw c.raise.ensures (counted-raised k.sent k.colour c.in_ok-count.count c.self.invariant.few_sent few) in
     let same : count_of part.sent part.colour ≡ count_of c.raise.new.self k.colour = (λ j. count_of (s.sent j) (s.colour j)) in
-    subst (λ n. n ≤ MAX_COUNT) (sym same) (count_of-counted c.raise.new.self k.colour within)
+    let most = count_of-counted c.raise.new.self k.colour within in
+    λ over. omega (arith, over, same, most)
 
 pub returns-clause-own : goal.returns-clause-own
 returns-clause-own g c =

@@ -7,7 +7,7 @@ use Rattle.vt_model.specs.Simulation.{simulation_of}
 use Rattle.vt_steps.specs.Letters.{count_of}
 use Rattle.vt_steps.specs.PartSteps.{letters_for, is_for}
 use Rattle.vt_kernel.specs.Held.{HeldWorker}
-use Rattle.vt_kernel.proofs.SendLemmas.{refused-send, count_sent, may_send-yes}
+use Rattle.vt_kernel.proofs.SendLemmas.{sent-after, refused-send, count_sent, may_send-yes}
 use Rattle.vt_kernel.proofs.kernel.Kernel.may_send.Goals as goal
 
 pub returns-in_default-clause-refused : goal.returns-in_default-clause-refused
@@ -40,7 +40,8 @@ returns-clause-lawful g c handlers part s =
     let some : 0 < length (letters_for (simulation_of handlers c.args.self.now.config) c.args.v part) = omega (arith, number, count.0, theirs) in
     let sent : count_of k.sent k.colour ≡ count_of part.sent part.colour =
     ap (λ (u : HeldWorker _ _ _). count_of u.sent u.colour) c.self.view_is ∙ (λ j. count_of (sym s.sent j) (sym s.colour j)) in
+    let after = sent-after (simulation_of handlers c.args.self.now.config) c.args.v part in
     let room = c.room-room.ensures in (
       may_send-yes (simulation_of handlers c.args.self.now.config) c.args.self.now.worker c.args.v part other some,
-      omega (arith, number, count.0, count.1, room, sent, theirs),
+      λ over. omega (arith, over, after, number, count.0, count.1, room, sent, theirs),
     )

@@ -4,7 +4,7 @@ use Rattle.vt_steps.specs.declared.step.Step.TheVariants.{Accept}
 use Rattle.vt_kernel.specs.Guards.{IsDone}
 use Rattle.vt_world.proofs.StepLemmas.{step-refused, step-left}
 use Rattle.vt_world.proofs.Places.{worker-there, put-back}
-use Rattle.vt_world.proofs.LocalLemmas.{accept-why, does-locally, inside-local, inside-kept, at-place}
+use Rattle.vt_world.proofs.LocalLemmas.{accept-why, does-quietly, inside-local, inside-kept, at-place}
 use Rattle.vt_world.proofs.WorldSteps.{of-nobody}
 use Rattle.vt_world.proofs.in_memory.InMemory.accept.Goals as goal
 
@@ -33,5 +33,5 @@ pub returns : goal.returns
 returns g c =
     let H = g.M.Model.handlers c.self.inside.model.now in
     let at = worker-there c.self.invariant c.if-w-self.false c.index_mut.ensures.value in
-    does-locally g.M.Model.handlers c.self.view_is c.self.invariant _ at (Accept c.args.w c.args.i) refl c.accept.new.self c.accept.ensures.same
-    (at-place c.self.invariant _ at (λ v. Accept v c.args.i) (IsDone H c.accept.new.self) (c.in_ok-accept.ensures.done H)) (λ after h past. past)
+    does-quietly g.M.Model.handlers c.self.view_is c.self.invariant _ at (Accept c.args.w c.args.i) refl c.accept.new.self c.accept.ensures.same
+    (at-place c.self.invariant _ at (λ v. Accept v c.args.i) (IsDone H c.accept.new.self) (c.in_ok-accept.ensures.done H)) (λ part rounds over. over)

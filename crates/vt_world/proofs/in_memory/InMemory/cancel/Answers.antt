@@ -1,7 +1,7 @@
 use Rattle.std.proofs.Common.{rules, sym}
 use Rattle.vt_steps.specs.declared.step.Step.TheVariants.{Cancel}
 use Rattle.vt_world.proofs.Places.{worker-there}
-use Rattle.vt_world.proofs.LocalLemmas.{does-locally, refuses-locally, inside-local, inside-kept}
+use Rattle.vt_world.proofs.LocalLemmas.{does-quietly, refuses-locally, inside-local, inside-kept}
 use Rattle.vt_world.proofs.in_memory.InMemory.cancel.Goals as goal
 
 pub invariant_of-self : goal.invariant_of-self
@@ -23,4 +23,4 @@ invariant_of-self-2 g c =
 pub returns : goal.returns
 returns g c =
     let at = worker-there c.self.invariant c.owner-owner.ensures.known c.index_mut.ensures.value in
-    does-locally g.M.Model.handlers c.self.view_is c.self.invariant _ at (Cancel c.args.lp c.args.stamp) (sym c.owner-owner.ensures.value) c.cancel.new.self c.cancel.ensures.same (c.in_ok-cancel.ensures.done (g.M.Model.handlers c.self.inside.model.now)) (λ after h past. past)
+    does-quietly g.M.Model.handlers c.self.view_is c.self.invariant _ at (Cancel c.args.lp c.args.stamp) (sym c.owner-owner.ensures.value) c.cancel.new.self c.cancel.ensures.same (c.in_ok-cancel.ensures.done (g.M.Model.handlers c.self.inside.model.now)) (λ part rounds over. over)

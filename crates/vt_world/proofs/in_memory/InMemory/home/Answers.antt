@@ -4,7 +4,7 @@ use Rattle.vt_steps.specs.declared.step.Step.TheVariants.{Home}
 use Rattle.vt_kernel.specs.Guards.{IsDone}
 use Rattle.vt_world.proofs.StepLemmas.{step-left}
 use Rattle.vt_world.proofs.Places.{worker-there}
-use Rattle.vt_world.proofs.LocalLemmas.{does-locally, refuses-locally, inside-local, inside-kept, at-place}
+use Rattle.vt_world.proofs.LocalLemmas.{does-quietly, refuses-locally, inside-local, inside-kept, at-place}
 use Rattle.vt_world.proofs.WorldSteps.{of-nobody}
 use Rattle.vt_world.proofs.in_memory.InMemory.home.Goals as goal
 
@@ -34,5 +34,5 @@ pub returns : goal.returns
 returns g c =
     let H = g.M.Model.handlers c.self.inside.model.now in
     let at = worker-there c.self.invariant c.if-w-self.false c.index_mut.ensures.value in
-    does-locally g.M.Model.handlers c.self.view_is c.self.invariant _ at (Home c.args.w) refl c.home.new.self c.home.ensures.same
-    (at-place c.self.invariant _ at Home (IsDone H c.home.new.self) (c.in_ok-home.ensures.done H)) (λ after h past. past)
+    does-quietly g.M.Model.handlers c.self.view_is c.self.invariant _ at (Home c.args.w) refl c.home.new.self c.home.ensures.same
+    (at-place c.self.invariant _ at Home (IsDone H c.home.new.self) (c.in_ok-home.ensures.done H)) (λ part rounds over. over)

@@ -1,7 +1,7 @@
 use Rattle.std.proofs.Common.{rules, sym}
 use Rattle.vt_steps.specs.declared.step.Step.TheVariants.{Undo}
 use Rattle.vt_world.proofs.Places.{worker-there}
-use Rattle.vt_world.proofs.LocalLemmas.{does-locally, refuses-locally, inside-local, inside-kept}
+use Rattle.vt_world.proofs.LocalLemmas.{does-quietly, refuses-locally, inside-local, inside-kept}
 use Rattle.vt_world.proofs.in_memory.InMemory.undo.Goals as goal
 
 pub invariant_of-self : goal.invariant_of-self
@@ -23,4 +23,4 @@ invariant_of-self-2 g c =
 pub returns : goal.returns
 returns g c =
     let at = worker-there c.self.invariant c.owner-owner.ensures.known c.index_mut.ensures.value in
-    does-locally g.M.Model.handlers c.self.view_is c.self.invariant _ at (Undo c.args.lp) (sym c.owner-owner.ensures.value) c.undo.new.self c.undo.ensures.same c.in_ok-undo.ensures.done (λ after h past. past)
+    does-quietly g.M.Model.handlers c.self.view_is c.self.invariant _ at (Undo c.args.lp) (sym c.owner-owner.ensures.value) c.undo.new.self c.undo.ensures.same c.in_ok-undo.ensures.done (λ part rounds over. over)
