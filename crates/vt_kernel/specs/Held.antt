@@ -1,6 +1,5 @@
 -- What a worker keeps in memory, and which parts of a world it stands for.
-use Rattle.std.specs.Prelude.{◌≡◌, ℕ, Bool, not, ◌||◌, nat_eq, if◌then◌else◌, ◌+◌, ◌-◌, ◌*◌, ◌/◌, ◌%◌, ◌<◌, ◌≤◌, List, [], ◌∷◌, map, length, All, Option, None, slice_get}
-use Rattle.std.specs.Option.{is_none}
+use Rattle.std.specs.Prelude.{◌≡◌, ℕ, nat_eq, if◌then◌else◌, ◌+◌, ◌-◌, ◌*◌, ◌/◌, ◌%◌, ◌<◌, ◌≤◌, List, [], ◌∷◌, map, length, All, Option, None, slice_get}
 use Rattle.vt_key.specs.Times.{Time}
 use Rattle.vt_key.specs.declared.limits.TheConstants.{MAX_COUNT}
 use Rattle.vt_key.specs.declared.letter.Letter.{Letter}
@@ -10,14 +9,13 @@ use Rattle.vt_model.specs.declared.settings.Config.{Config}
 use Rattle.vt_model.specs.Handler.{Handlers}
 use Rattle.vt_model.specs.Simulation.{simulation_of}
 use Rattle.vt_model.specs.Settings.{end_of}
-use Rattle.vt_steps.specs.Letters.{Counts, is_empty}
+use Rattle.vt_steps.specs.Letters.{Counts}
 use Rattle.vt_steps.specs.World.{Part}
 use Rattle.vt_steps.specs.StandsFor.{PartMemory, StandsForPart}
 use Rattle.vt_lp.specs.Held.{HeldProcess, process_memory, AllWithinRun, IsWithinRun}
 use Rattle.vt_outbox.specs.Outbox.{HeldOutbox}
 use Rattle.vt_contest.specs.declared.contest.Contest.{Contest}
 use Rattle.vt_contest.specs.Contest.{IsContestOf}
-use Rattle.vt_contest.specs.Entries.{ready_of}
 
 -- what a contract sees of a worker: its number and the config, and all that a part of a world has, with its processes as they
 -- are in memory. Process p is at index p / workers
@@ -65,10 +63,6 @@ pub record IsProcessOf (config : Config) (w p : ℕ) : Type 0 where
 -- process p of a worker; None where it is not one of its processes
 abbrev pub process_of : {S P K : Type 0} → HeldWorker S P K → ℕ → Option (HeldProcess S P K)
 process_of held p = if nat_eq (p % held.config.workers) held.worker then slice_get held.processes (p / held.config.workers) else None
-
--- an anti-message waits at a process, or it may execute nothing
-abbrev pub is_unsettled : {S P K : Type 0} → HeldProcess S P K → Bool
-is_unsettled process = not (is_empty process.waiting) || is_none (ready_of process)
 
 -- ---- what a worker keeps to
 

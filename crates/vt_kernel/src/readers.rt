@@ -1,15 +1,19 @@
 //! Readers of a worker's processes.
 
-ghost use Rattle.std.specs.Prelude.{◌≡◌, ◌⊎◌, ◌%◌, ◌^◌, false, length, Some, IfSome, IfNone, IfOk, IfErr, OnOk};
+ghost use Rattle.std.specs.Prelude.{◌≡◌, ◌⊎◌, ◌%◌, ◌^◌, false, length, Some, IsFalse, IfSome, IfNone, IfOk, IfErr, OnOk};
 ghost use Rattle.std.specs.Option.{option_copied, option_map, option_map_or};
 ghost use Rattle.vt_key.specs.declared.fault.Fault.TheVariants.{Memory, NotLawful};
+ghost use Rattle.vt_model.specs.Handler.{Handlers};
 ghost use Rattle.vt_model.specs.Simulation.{simulation_of};
 ghost use Rattle.vt_steps.specs.World.{Part};
 ghost use Rattle.vt_steps.specs.Finals.{part_values};
-ghost use Rattle.vt_kernel.specs.Held.{StandsFor, held_values, process_of, is_unsettled, IsProcessOf};
+ghost use Rattle.vt_kernel.specs.Held.{StandsFor, held_values, process_of, IsProcessOf};
+ghost use Rattle.vt_kernel.specs.Local.{IsSettled};
 ghost use Rattle.vt_lp.specs.Held.{executed_events};
+ghost use Rattle.vt_lp.specs.Guards.{is_unsettled};
 
 use crate::kernel::Kernel;
+use crate::local::place_of;
 use std::alloc::Global;
 use vt_key::{Event, Fault};
 use vt_lp::Lp;
@@ -28,15 +32,16 @@ impl<M: EventModel> Kernel<M> {
         self.processes.get(self.config.index(p) as usize)
     }
 
-    /// Whether an anti-message waits at process `p`, or Execute isn't lawful there. If neither is so, Undo and Cancel aren't
-    /// lawful there either. False if the process isn't one of this worker's.
+    /// Whether an anti-message waits at process `p`, or Execute isn't lawful there. False if the process isn't one of this worker's.
+    /// If it is false, Undo and Cancel aren't lawful there.
     pub fn is_unsettled(&self, p: u32) -> bool
-        ensures { result ≡ option_map_or is_unsettled (process_of self.now p) false }
+        ensures value { result ≡ option_map_or is_unsettled (process_of self.now p) false }
+        ensures settled { IsFalse result → (handlers : Handlers _ _ _) (part : Part _) → StandsFor handlers self.now part → IsSettled (simulation_of handlers self.now.config) self.now.worker p part }
     {
-        match self.process(p) {
-            Some(process) => process.has_waiting() || process.ready().is_none(),
-            None => false,
-        }
+        let Some(place) = place_of(self.config, self.worker, p) else {
+            return false;
+        };
+        self.processes[place].is_unsettled()
     }
 
     /// The state of process `p`; None if it isn't one of this worker's.

@@ -11,3 +11,4 @@ mod Ends
 mod Advancing
 pub mod ExecuteLemmas
 mod UndoLemmas
+mod SettledLemmas

@@ -1,10 +1,12 @@
 -- What the calls of a process answer and leave, by the steps of a world's process.
-use Rattle.std.specs.Prelude.{◌≡◌, ℕ, ◌+◌, ◌<◌, ◌⊎◌, Bool, true, List, [], ◌∷◌, ◌++◌, if◌then◌else◌, Option, Some, None, slice_get}
+use Rattle.std.specs.Prelude.{◌≡◌, ℕ, ◌+◌, ◌<◌, ◌⊎◌, Bool, true, not, ◌||◌, List, [], ◌∷◌, ◌++◌, if◌then◌else◌, Option, Some, None, slice_get}
 use Rattle.std.specs.List.{last_or}
+use Rattle.std.specs.Option.{is_none}
 use Rattle.vt_key.specs.Order.{rank_before}
 use Rattle.vt_key.specs.Times.{Time}
 use Rattle.vt_key.specs.declared.limits.TheConstants.{MAX_COUNT}
 use Rattle.vt_key.specs.declared.order.Rank.{Rank}
+use Rattle.vt_key.specs.declared.order.Stamp.{Stamp}
 use Rattle.vt_key.specs.declared.letter.Letter.{Letter}
 use Rattle.vt_key.specs.declared.letter.Sign.{Sign}
 use Rattle.vt_key.specs.declared.letter.Sign.TheVariants.{Plus, Minus}
@@ -12,9 +14,9 @@ use Rattle.vt_key.specs.declared.fault.Fault.{Fault}
 use Rattle.vt_key.specs.declared.fault.Fault.TheVariants.{Memory, NotLawful, Exhausted}
 use Rattle.vt_model.specs.Handler.{Handlers}
 use Rattle.vt_model.specs.Simulation.{Simulation}
-use Rattle.vt_steps.specs.Letters.{least_time}
+use Rattle.vt_steps.specs.Letters.{least_time, is_empty}
 use Rattle.vt_steps.specs.World.{LogicalProcess, triple_after}
-use Rattle.vt_steps.specs.ProcessSteps.{ProcessEffect, may_follow, holds}
+use Rattle.vt_steps.specs.ProcessSteps.{ProcessEffect, may_follow, undo_process, cancel_process, holds}
 use Rattle.vt_past.specs.declared.event.PastEvent.{PastEvent}
 use Rattle.vt_lp.specs.Held.{HeldProcess, StandsFor}
 
@@ -74,6 +76,15 @@ module _ {P : Type 0} where
   lesser_rank (Some a) None = Some a.event.rank
   lesser_rank None (Some b) = Some b.event.rank
   lesser_rank (Some a) (Some b) = if rank_before b.event.rank a.event.rank then Some b.event.rank else Some a.event.rank
+
+-- an anti-message waits at a process, or it may execute nothing
+abbrev pub is_unsettled : {S P K : Type 0} → HeldProcess S P K → Bool
+is_unsettled process = not (is_empty process.waiting) || is_none (ready_rank process.pending process.past)
+
+-- neither Undo nor Cancel is lawful at a process
+pub record HasNothingToSettle {P : Type 0} (process : LogicalProcess P) : Type 0 where
+  pub no_undo : undo_process process ≡ None
+  pub no_cancel : (stamp : Stamp) → cancel_process stamp process ≡ None
 
 -- what a process tells of its least letters is as it was: the rank of the event that Execute would execute, the least rank, and
 -- the least time

@@ -3,7 +3,10 @@
 ghost use Rattle.std.specs.Prelude.{◌≡◌, ◌++◌, ◌%◌, ◌^◌, ◌↔◌, [], length, slice_get, IsFalse, IfSome, IfNone};
 ghost use Rattle.std.specs.Option.{option_copied};
 ghost use Rattle.vt_steps.specs.Letters.{least_time};
-ghost use Rattle.vt_lp.specs.Guards.{ready_rank, lesser_rank};
+ghost use Rattle.vt_steps.specs.World.{LogicalProcess};
+ghost use Rattle.vt_lp.specs.Held.{StandsFor};
+ghost use Rattle.vt_lp.specs.Guards.{ready_rank, lesser_rank, is_unsettled, HasNothingToSettle};
+ghost use Rattle.vt_model.specs.Handler.{Handlers};
 ghost use Rattle.vt_model.specs.Settings.{end_of};
 
 use crate::letters::ends_before;
@@ -99,6 +102,21 @@ impl<M: EventModel> Lp<M> {
         ensures { IsFalse result ↔ (self.now.waiting ≡ []) }
     {
         !self.waiting.is_empty()
+    }
+
+    /// Whether an anti-message waits for its message, or [`Lp::execute`] isn't lawful. If neither is so, [`Lp::undo`] isn't lawful, and
+    /// [`Lp::cancel`] isn't for any stamp.
+    pub fn is_unsettled(&self) -> bool
+        ensures value { result ≡ is_unsettled self.now }
+        ensures settled { IsFalse result → (handlers : Handlers _ _ _) (h : LogicalProcess _) → StandsFor handlers self.now h → HasNothingToSettle h }
+    {
+        if self.has_waiting() {
+            return true;
+        }
+        match self.pending.least() {
+            Some(least) => !ends_before(&self.past, least.event.rank),
+            None => true,
+        }
     }
 
     /// The number of pending messages, modulo 2^64.

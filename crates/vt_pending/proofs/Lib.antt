@@ -3,7 +3,7 @@ mod Finding
 pub mod Holding
 mod Inserting
 mod Kept
-mod Placing
+pub mod Placing
 pub mod Rising
 mod Rows
 mod Searching
