@@ -1,7 +1,8 @@
 //! Cut and Report, on a kernel and the board.
 
-ghost use Rattle.std.specs.Prelude.{◌≡◌, IfOk};
+ghost use Rattle.std.specs.Prelude.{◌≡◌, Ok, Err, IfOk, IfErr, MatchResult, is_ok};
 ghost use Rattle.vt_key.specs.Letters.{other_colour};
+ghost use Rattle.vt_key.specs.declared.fault.Fault.TheVariants.{NotLawful};
 ghost use Rattle.vt_key.specs.Times.{earlier};
 ghost use Rattle.vt_model.specs.Handler.{Handlers};
 ghost use Rattle.vt_model.specs.Settings.{end_of};
@@ -10,7 +11,7 @@ ghost use Rattle.vt_steps.specs.declared.step.Reply.TheVariants.{Done};
 ghost use Rattle.vt_steps.specs.Letters.{count_of, least_time};
 ghost use Rattle.vt_steps.specs.Cells.{on_board};
 ghost use Rattle.vt_kernel.specs.Guards.{held_letters};
-ghost use Rattle.vt_board.specs.Calls.{reply_of};
+ghost use Rattle.vt_board.specs.Calls.{cut_outcome, takes_report, reply_of};
 ghost use Rattle.vt_cells.specs.Calls.{IsCellStepOf, answer_of};
 
 use vt_board::{Board, Report};
@@ -28,6 +29,7 @@ pub fn cut<M: EventModel>(kernel: &mut Kernel<M>, w: u32, board: &mut Board) -> 
     ensures step { (handlers : Handlers _ _ _) → IsCellStepOf handlers kernel.old.config (step.Cut w) kernel.old kernel.new (on_board board.old.board) (on_board board.new.board) result }
     ensures end { board.new.end ≡ board.old.end }
     ensures reply { IfOk result (λ reply. reply ≡ Done) }
+    ensures why { MatchResult result (λ _. cut_outcome board.old.end w board.old.board ≡ Ok board.new.board) (λ fault. cut_outcome board.old.end w board.old.board ≡ Err fault) }
 {
     match board.cut(w) {
         Ok(announced) => {
@@ -53,6 +55,8 @@ pub fn report<M: EventModel>(
     requires end { board.old.end ≡ end_of kernel.old.config }
     ensures step { (handlers : Handlers _ _ _) → IsCellStepOf handlers kernel.old.config (step.Report w) kernel.old kernel.new (on_board board.old.board) (on_board board.new.board) (answer_of result) }
     ensures end { board.new.end ≡ board.old.end }
+    ensures lawful { is_ok result ≡ takes_report board.old.end w values.2 board.old.board }
+    ensures why { IfErr result (λ fault. fault ≡ NotLawful) }
 {
     let (sent, got, least) = values;
     match board.report(w, sent, got, least) {

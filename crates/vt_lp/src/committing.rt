@@ -53,6 +53,7 @@ impl<M: EventModel> Lp<M> {
     /// [`Fault::Memory`]: memory was refused, and the rows are unchanged.
     pub fn ripe(&self, floor: When, rows: &mut Vec<Row>) -> Result<(), Fault>
         ensures rows { (handlers : Handlers _ _ _) (h : LogicalProcess _) → StandsFor handlers self.now h → IfOk result (λ done. rows.new.items ≡ rows.old.items ++ ripe_rows (simulation_of handlers self.now.config) self.now.lp floor h) }
+        ensures appended { IfOk result (λ done. rows.new.items ≡ rows.old.items ++ rows_of_ripe floor self.now.past) }
         ensures refused { IfErr result (λ fault. (fault ≡ Memory) × (rows.new.items ≡ rows.old.items)) }
     {
         let others = rows.len();
