@@ -55,6 +55,7 @@ impl<M: EventModel> Kernel<M> {
     pub fn accept(&mut self, alloc: Global, i: u64) -> Result<(), Fault>
         ensures done { (handlers : Handlers _ _ _) (part : Part _) → StandsFor handlers self.old part → IfOk result (λ done. IsDone handlers self.new (local_step (simulation_of handlers self.old.config) self.old.worker (step.Accept self.old.worker i) part)) }
         ensures refused { (handlers : Handlers _ _ _) (part : Part _) → StandsFor handlers self.old part → IfErr result (λ fault. IsAcceptRefusal (local_step (simulation_of handlers self.old.config) self.old.worker (step.Accept self.old.worker i) part) fault) }
+        ensures faults { IfErr result (λ fault. (fault ≡ NotLawful) ⊎ (fault ≡ Memory)) }
         ensures kept { IfErr result (λ fault. self.new ≡ self.old) }
         ensures same { (self.new.worker ≡ self.old.worker) × (self.new.config ≡ self.old.config) }
     {
