@@ -1,13 +1,14 @@
 //! A whole program of one model, over the words of its process.
 
-ghost use Rattle.std.specs.Prelude.{◌≡◌, ◌≢◌, ◌⊎◌, ◌++◌, List, length, Some, codes, IfErr, IfSome, string_bytes};
+ghost use Rattle.std.specs.Prelude.{◌≡◌, ◌≢◌, ◌⊎◌, ◌++◌, List, length, Some, None, codes, IfErr, IfSome, string_bytes};
 ghost use Rattle.std.specs.Fn.{FnReturnsAt};
 ghost use Rattle.std.specs.Io.KnownBytes.{Keeps};
 ghost use Rattle.clap.specs.Words.{Text};
 ghost use Rattle.vt_key.specs.Faults.{option_named};
 ghost use Rattle.vt_key.specs.declared.fault.Fault.{Fault};
 ghost use Rattle.vt_key.specs.declared.fault.Fault.TheVariants.{Memory};
-ghost use Rattle.vt_options.specs.Own.{HaveDefaults, AreWithin};
+ghost use Rattle.vt_options.specs.Hints.{IsHintOn};
+ghost use Rattle.vt_options.specs.Own.{HaveDefaults, AreWithin, own_line};
 ghost use Rattle.vt_options.specs.Taken.{own_names, taken_in};
 ghost use Rattle.vt_tasks.specs.Refusals.{TellsRefusalOf, status_of};
 ghost use Rattle.vt_runner.specs.OneModel.{IsDoneOf, EndsOf, IsReadOf, IsRefusedUnasked};
@@ -110,6 +111,8 @@ fn hint_on_taken(alloc: Global, program: &str, name: &str) -> Option<String>
 
 /// A line for a terminal where [`run_program`] has refused the words of the process: which word it was, and what is allowed; or
 /// that an option's name is taken. None: none of these was refused, or memory was refused.
+///
+/// No contract says what the words of the process are: if no name is taken, a line is right for some words.
 pub fn hint_of_process<H: Env + AllocGlobal>(
     rt: &H,
     texts: &ProgramTexts,
@@ -117,6 +120,7 @@ pub fn hint_of_process<H: Env + AllocGlobal>(
 ) -> Option<String>
     requires defaults { HaveDefaults own.now }
     ensures taken { (name : Text) → taken_in (own_names own.now) ≡ Some name → IfSome result (λ line. string_bytes line ≡ texts.now.name.now ++ (codes ": another option of it is named --" ++ (name ++ codes " too"))) }
+    ensures words { taken_in (own_names own.now) ≡ None → IfSome result (λ line. (words : List Text) × IsHintOn texts.now.name.now (own_line texts.now.name.now own.now) words (string_bytes line)) }
 {
     if let Some(name) = taken_name(own) {
         return hint_on_taken(rt.alloc(), texts.name, name);
