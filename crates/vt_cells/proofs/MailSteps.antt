@@ -15,7 +15,8 @@ use Rattle.vt_steps.specs.CellSteps.{may_send}
 use Rattle.vt_kernel.specs.Held.{HeldWorker, StandsFor, AreCounted}
 use Rattle.vt_kernel.specs.Guards.{IsSendRefusal}
 use Rattle.vt_kernel.specs.Refusals.{PassesIn}
-use Rattle.vt_cells.specs.Calls.{IsCellRefusal, IsCellStepOf, IsTakeRefusal, rounds_of}
+use Rattle.vt_kernel.specs.Steps.{IsTakeRefusal}
+use Rattle.vt_cells.specs.Calls.{IsCellRefusal, IsCellStepOf, rounds_of}
 use Rattle.vt_cells.proofs.ActLemmas.{act-send, act-not_send, act-fetch, act-not_fetch}
 
 module _ {S P : Type 0} (sim : Simulation S P) where

@@ -26,15 +26,6 @@ use Rattle.vt_book.specs.Books.{RunBook}
 use Rattle.vt_kernel.specs.Held.{HeldWorker, StandsFor}
 use Rattle.vt_kernel.specs.Refusals.{PassesIn, TakesMemory}
 
--- with this mail a count of mail got is past its limit
-abbrev pub IsTooMuchMail : {P : Type 0} → Counts → List (Mail P) → Type 0
-IsTooMuchMail got mails = (MAX_COUNT < got.white + count_colour White mails) ⊎ (MAX_COUNT < got.red + count_colour Red mails)
-
--- why mail isn't taken out of an inbox, by what arrived before and was got before
-abbrev pub IsTakeRefusal : {P : Type 0} → List (Mail P) → Counts → List (Mail P) → Fault → Type 0
-IsTakeRefusal arrived got mails fault =
-    ((fault ≡ NotLawful) × (is_empty arrived ≡ false)) ⊎ ((fault ≡ Exhausted) × (is_empty arrived ≡ true) × IsTooMuchMail got mails)
-
 -- the number of rounds on a cell that is the board; other cells tell of none
 abbrev pub rounds_of : {P : Type 0} → Cell P → ℕ
 rounds_of (on_board board) = board.rounds

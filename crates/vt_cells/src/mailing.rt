@@ -9,7 +9,8 @@ ghost use Rattle.vt_steps.specs.World.{Part};
 ghost use Rattle.vt_steps.specs.Cells.{in_inbox};
 ghost use Rattle.vt_kernel.specs.Held.{StandsFor, AllOwnMail};
 ghost use Rattle.vt_kernel.specs.Guards.{IsSendRefusal};
-ghost use Rattle.vt_cells.specs.Calls.{IsCellStepOf, IsTakeRefusal};
+ghost use Rattle.vt_kernel.specs.Steps.{IsTakeRefusal};
+ghost use Rattle.vt_cells.specs.Calls.{IsCellStepOf};
 
 use vt_kernel::Kernel;
 use vt_key::{Fault, Mail};

@@ -3,3 +3,4 @@ pub mod Local
 pub mod Guards
 pub mod Settled
 pub mod Refusals
+pub mod Steps

@@ -8,12 +8,11 @@ ghost use Rattle.vt_model.specs.Handler.{Handlers};
 ghost use Rattle.vt_model.specs.Simulation.{simulation_of};
 ghost use Rattle.vt_steps.specs.World.{LogicalProcess, Part};
 ghost use Rattle.vt_steps.specs.ProcessSteps.{accept_process};
-ghost use Rattle.vt_steps.specs.Cells.{local_step};
 ghost use Rattle.vt_steps.specs.declared.step.Step.TheVariants as step;
 ghost use Rattle.vt_lp.specs.Held.{StandsFor as ProcessStandsFor};
 ghost use Rattle.vt_lp.specs.Guards.{holds_letter, IsDone as ProcessIsDone};
 ghost use Rattle.vt_kernel.specs.Held.{StandsFor};
-ghost use Rattle.vt_kernel.specs.Guards.{IsDone, IsAcceptRefusal};
+ghost use Rattle.vt_kernel.specs.Steps.{DoesStep, RefusesStep, RefusesAccept};
 
 use crate::kernel::Kernel;
 use std::alloc::Global;
@@ -27,8 +26,8 @@ impl<M: EventModel> Kernel<M> {
     ///
     /// [`Fault::NotLawful`]: there is no such letter, or its process holds it already. Nothing changes.
     pub fn home(&mut self) -> Result<(), Fault>
-        ensures done { (handlers : Handlers _ _ _) (part : Part _) → StandsFor handlers self.old part → IfOk result (λ done. IsDone handlers self.new (local_step (simulation_of handlers self.old.config) self.old.worker (step.Home self.old.worker) part)) }
-        ensures refused { (handlers : Handlers _ _ _) (part : Part _) → StandsFor handlers self.old part → IfErr result (λ fault. local_step (simulation_of handlers self.old.config) self.old.worker (step.Home self.old.worker) part ≡ None) }
+        ensures done { (handlers : Handlers _ _ _) → DoesStep handlers self.old self.new (step.Home self.old.worker) result }
+        ensures refused { (handlers : Handlers _ _ _) → RefusesStep handlers self.old (step.Home self.old.worker) result }
         ensures kept { IfErr result (λ fault. (fault ≡ NotLawful) × (self.new ≡ self.old)) }
         ensures same { (self.new.worker ≡ self.old.worker) × (self.new.config ≡ self.old.config) }
     {
@@ -53,8 +52,8 @@ impl<M: EventModel> Kernel<M> {
     /// [`Fault::NotLawful`]: there is no such index, or its process holds the letter already. [`Fault::Memory`]:
     /// memory was refused. After either nothing has changed.
     pub fn accept(&mut self, alloc: Global, i: u64) -> Result<(), Fault>
-        ensures done { (handlers : Handlers _ _ _) (part : Part _) → StandsFor handlers self.old part → IfOk result (λ done. IsDone handlers self.new (local_step (simulation_of handlers self.old.config) self.old.worker (step.Accept self.old.worker i) part)) }
-        ensures refused { (handlers : Handlers _ _ _) (part : Part _) → StandsFor handlers self.old part → IfErr result (λ fault. IsAcceptRefusal (local_step (simulation_of handlers self.old.config) self.old.worker (step.Accept self.old.worker i) part) fault) }
+        ensures done { (handlers : Handlers _ _ _) → DoesStep handlers self.old self.new (step.Accept self.old.worker i) result }
+        ensures refused { (handlers : Handlers _ _ _) → RefusesAccept handlers self.old i result }
         ensures faults { IfErr result (λ fault. (fault ≡ NotLawful) ⊎ (fault ≡ Memory)) }
         ensures kept { IfErr result (λ fault. self.new ≡ self.old) }
         ensures same { (self.new.worker ≡ self.old.worker) × (self.new.config ≡ self.old.config) }

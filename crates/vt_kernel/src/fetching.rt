@@ -9,6 +9,7 @@ ghost use Rattle.vt_steps.specs.Letters.{raised, count_colour, is_empty};
 ghost use Rattle.vt_steps.specs.World.{Part};
 ghost use Rattle.vt_steps.specs.PartSteps.{part_after_fetch};
 ghost use Rattle.vt_kernel.specs.Held.{StandsFor, AllOwnMail, AreCounted};
+ghost use Rattle.vt_kernel.specs.Steps.{held_after_fetch, IsTakeRefusal};
 
 use crate::counts::Counts;
 use crate::kernel::Kernel;
@@ -27,10 +28,10 @@ impl<M: EventModel> Kernel<M> {
         mail: Vec<Mail<M::Payload>>,
     ) -> Result<(), (Fault, Vec<Mail<M::Payload>>)>
         requires own { AllOwnMail self.old.config self.old.worker mail.items }
-        ensures taken { IfOk result (λ _. self.new ≡ record self.old { arrived = mail.items; got = raised (raised self.old.got White (count_colour White mail.items)) Red (count_colour Red mail.items) }) }
+        ensures taken { IfOk result (λ _. self.new ≡ held_after_fetch mail.items self.old) }
         ensures lawful { IfOk result (λ _. (is_empty self.old.arrived ≡ true) × AreCounted self.new.got) }
         ensures done { (handlers : Handlers _ _ _) (part : Part _) → StandsFor handlers self.old part → IfOk result (λ _. (is_empty part.arrived ≡ true) × StandsFor handlers self.new (part_after_fetch mail.items part)) }
-        ensures refused { IfErr result (λ e. ((e.0 ≡ NotLawful) × (is_empty self.old.arrived ≡ false)) ⊎ ((e.0 ≡ Exhausted) × (is_empty self.old.arrived ≡ true) × ((MAX_COUNT < self.old.got.white + count_colour White mail.items) ⊎ (MAX_COUNT < self.old.got.red + count_colour Red mail.items)))) }
+        ensures refused { IfErr result (λ e. IsTakeRefusal self.old.arrived self.old.got mail.items e.0) }
         ensures kept { IfErr result (λ e. (self.new ≡ self.old) × (e.1.items ≡ mail.items)) }
     {
         let mut mail = mail;
@@ -46,11 +47,11 @@ impl<M: EventModel> Kernel<M> {
     /// [`Fault`]: as of [`Kernel::take_in`]; the mail stays in the inbox.
     pub fn exchange_mail(&mut self, mail: &mut Vec<Mail<M::Payload>>) -> Result<(), Fault>
         requires own { AllOwnMail self.old.config self.old.worker mail.old.items }
-        ensures taken { IfOk result (λ _. self.new ≡ record self.old { arrived = mail.old.items; got = raised (raised self.old.got White (count_colour White mail.old.items)) Red (count_colour Red mail.old.items) }) }
+        ensures taken { IfOk result (λ _. self.new ≡ held_after_fetch mail.old.items self.old) }
         ensures emptied { IfOk result (λ _. mail.new.items ≡ []) }
         ensures lawful { IfOk result (λ _. (is_empty self.old.arrived ≡ true) × AreCounted self.new.got) }
         ensures done { (handlers : Handlers _ _ _) (part : Part _) → StandsFor handlers self.old part → IfOk result (λ _. (is_empty part.arrived ≡ true) × StandsFor handlers self.new (part_after_fetch mail.old.items part)) }
-        ensures refused { IfErr result (λ fault. ((fault ≡ NotLawful) × (is_empty self.old.arrived ≡ false)) ⊎ ((fault ≡ Exhausted) × (is_empty self.old.arrived ≡ true) × ((MAX_COUNT < self.old.got.white + count_colour White mail.old.items) ⊎ (MAX_COUNT < self.old.got.red + count_colour Red mail.old.items)))) }
+        ensures refused { IfErr result (IsTakeRefusal self.old.arrived self.old.got mail.old.items) }
         ensures kept { IfErr result (λ _. (self.new ≡ self.old) × (mail.new ≡ mail.old)) }
     {
         if !self.arrived.is_empty() {

@@ -5,10 +5,9 @@ ghost use Rattle.vt_key.specs.declared.fault.Fault.TheVariants.{Memory, NotLawfu
 ghost use Rattle.vt_model.specs.Handler.{Handlers};
 ghost use Rattle.vt_model.specs.Simulation.{simulation_of};
 ghost use Rattle.vt_steps.specs.World.{Part};
-ghost use Rattle.vt_steps.specs.Cells.{local_step};
 ghost use Rattle.vt_steps.specs.declared.step.Step.TheVariants as step;
 ghost use Rattle.vt_kernel.specs.Held.{StandsFor, process_of};
-ghost use Rattle.vt_kernel.specs.Guards.{IsDone, IsExecuteRefusal};
+ghost use Rattle.vt_kernel.specs.Steps.{DoesStep, RefusesStep, RefusesExecute};
 ghost use Rattle.vt_kernel.specs.Refusals.{PassesIn};
 
 use crate::kernel::Kernel;
@@ -28,9 +27,9 @@ impl<M: EventModel> Kernel<M> {
     /// That holds for the model that the worker was made with. With another model, the last two faults may leave that
     /// process another state, since that model's `reverse` restores it.
     pub fn execute(&mut self, alloc: Global, model: &M, lp: u32) -> Result<(), Fault>
-        ensures done { (part : Part _) → StandsFor (M.handlers model.now) self.old part → IfOk result (λ done. IsDone (M.handlers model.now) self.new (local_step (simulation_of (M.handlers model.now) self.old.config) self.old.worker (step.Execute lp) part)) }
+        ensures done { DoesStep (M.handlers model.now) self.old self.new (step.Execute lp) result }
         ensures counted { (part : Part _) → StandsFor (M.handlers model.now) self.new part → IfOk result (λ done. PassesIn (simulation_of (M.handlers model.now) self.old.config) (step.Execute lp) part 0 → ⊥) }
-        ensures refused { (part : Part _) → StandsFor (M.handlers model.now) self.old part → IfErr result (λ fault. IsExecuteRefusal (simulation_of (M.handlers model.now) self.old.config) lp (local_step (simulation_of (M.handlers model.now) self.old.config) self.old.worker (step.Execute lp) part) fault) }
+        ensures refused { RefusesExecute (M.handlers model.now) self.old lp result }
         ensures faults { IfErr result (λ fault. (fault ≡ NotLawful) ⊎ ((fault ≡ Exhausted) ⊎ (fault ≡ Memory))) }
         ensures unchanged { (part : Part _) → StandsFor (M.handlers model.now) self.old part → IfErr result (λ fault. self.new ≡ self.old) }
         ensures restored { IfSome (process_of self.old lp) (λ process. M.IsState model.now process.triple.state) → IfErr result (λ fault. self.new ≡ self.old) }
@@ -52,9 +51,9 @@ impl<M: EventModel> Kernel<M> {
         lp: u32,
         out: &mut Out<M::Payload>,
     ) -> Result<(), Fault>
-        ensures done { (part : Part _) → StandsFor (M.handlers model.now) self.old part → IfOk result (λ done. IsDone (M.handlers model.now) self.new (local_step (simulation_of (M.handlers model.now) self.old.config) self.old.worker (step.Execute lp) part)) }
+        ensures done { DoesStep (M.handlers model.now) self.old self.new (step.Execute lp) result }
         ensures counted { (part : Part _) → StandsFor (M.handlers model.now) self.new part → IfOk result (λ done. PassesIn (simulation_of (M.handlers model.now) self.old.config) (step.Execute lp) part 0 → ⊥) }
-        ensures refused { (part : Part _) → StandsFor (M.handlers model.now) self.old part → IfErr result (λ fault. IsExecuteRefusal (simulation_of (M.handlers model.now) self.old.config) lp (local_step (simulation_of (M.handlers model.now) self.old.config) self.old.worker (step.Execute lp) part) fault) }
+        ensures refused { RefusesExecute (M.handlers model.now) self.old lp result }
         ensures faults { IfErr result (λ fault. (fault ≡ NotLawful) ⊎ ((fault ≡ Exhausted) ⊎ (fault ≡ Memory))) }
         ensures unchanged { (part : Part _) → StandsFor (M.handlers model.now) self.old part → IfErr result (λ fault. self.new ≡ self.old) }
         ensures restored { IfSome (process_of self.old lp) (λ process. M.IsState model.now process.triple.state) → IfErr result (λ fault. self.new ≡ self.old) }
@@ -86,8 +85,8 @@ impl<M: EventModel> Kernel<M> {
     /// [`Fault::NotLawful`]: `lp` is no process of this worker, it has no past event, or no letter overtakes the last
     /// one. Nothing changes.
     pub fn undo(&mut self, model: &M, lp: u32) -> Result<(), Fault>
-        ensures done { (part : Part _) → StandsFor (M.handlers model.now) self.old part → IfOk result (λ done. IsDone (M.handlers model.now) self.new (local_step (simulation_of (M.handlers model.now) self.old.config) self.old.worker (step.Undo lp) part)) }
-        ensures refused { (part : Part _) → StandsFor (M.handlers model.now) self.old part → IfErr result (λ fault. local_step (simulation_of (M.handlers model.now) self.old.config) self.old.worker (step.Undo lp) part ≡ None) }
+        ensures done { DoesStep (M.handlers model.now) self.old self.new (step.Undo lp) result }
+        ensures refused { RefusesStep (M.handlers model.now) self.old (step.Undo lp) result }
         ensures kept { IfErr result (λ fault. (fault ≡ NotLawful) × (self.new ≡ self.old)) }
         ensures same { (self.new.worker ≡ self.old.worker) × (self.new.config ≡ self.old.config) }
     {
@@ -107,8 +106,8 @@ impl<M: EventModel> Kernel<M> {
     /// [`Fault::NotLawful`]: `lp` is no process of this worker, or it doesn't have both, with one key. Nothing
     /// changes.
     pub fn cancel(&mut self, lp: u32, stamp: Stamp) -> Result<(), Fault>
-        ensures done { (handlers : Handlers _ _ _) (part : Part _) → StandsFor handlers self.old part → IfOk result (λ done. IsDone handlers self.new (local_step (simulation_of handlers self.old.config) self.old.worker (step.Cancel lp stamp) part)) }
-        ensures refused { (handlers : Handlers _ _ _) (part : Part _) → StandsFor handlers self.old part → IfErr result (λ fault. local_step (simulation_of handlers self.old.config) self.old.worker (step.Cancel lp stamp) part ≡ None) }
+        ensures done { (handlers : Handlers _ _ _) → DoesStep handlers self.old self.new (step.Cancel lp stamp) result }
+        ensures refused { (handlers : Handlers _ _ _) → RefusesStep handlers self.old (step.Cancel lp stamp) result }
         ensures kept { IfErr result (λ fault. (fault ≡ NotLawful) × (self.new ≡ self.old)) }
         ensures same { (self.new.worker ≡ self.old.worker) × (self.new.config ≡ self.old.config) }
     {

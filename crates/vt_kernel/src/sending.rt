@@ -14,6 +14,7 @@ ghost use Rattle.vt_steps.specs.CellSteps.{may_send};
 ghost use Rattle.vt_steps.specs.declared.step.Step.TheVariants as step;
 ghost use Rattle.vt_kernel.specs.Held.{StandsFor, AllOwnMail};
 ghost use Rattle.vt_kernel.specs.Guards.{mailed, IsSendRefusal};
+ghost use Rattle.vt_kernel.specs.Steps.{outbox_for, held_after_send};
 ghost use Rattle.vt_kernel.specs.Refusals.{PassesIn};
 
 use crate::kernel::Kernel;
@@ -32,9 +33,9 @@ impl<M: EventModel> Kernel<M> {
     /// [`Fault::Exhausted`]: the count of mail sent would pass 2^63. [`Fault::Memory`]: memory was refused. After
     /// each the worker and `mail` are unchanged.
     pub fn letters_for(&mut self, v: u32, mail: &mut Vec<Mail<M::Payload>>) -> Result<(), Fault>
-        ensures sent { let letters = filter (is_for self.old.config.workers v) self.old.outbox in IfOk result (λ _. self.new ≡ record self.old { outbox = filter (λ letter. not (is_for self.old.config.workers v letter)) self.old.outbox; sent = raised self.old.sent self.old.colour (length letters); red_minimum = earlier self.old.red_minimum (least_time (end_of self.old.config) letters) }) }
-        ensures mail { IfOk result (λ _. mail.new.items ≡ mail.old.items ++ map (mailed self.old.colour) (filter (is_for self.old.config.workers v) self.old.outbox)) }
-        ensures own { IfOk result (λ _. AllOwnMail self.old.config v (map (mailed self.old.colour) (filter (is_for self.old.config.workers v) self.old.outbox))) }
+        ensures sent { IfOk result (λ _. self.new ≡ held_after_send v self.old) }
+        ensures mail { IfOk result (λ _. mail.new.items ≡ mail.old.items ++ map (mailed self.old.colour) (outbox_for v self.old)) }
+        ensures own { IfOk result (λ _. AllOwnMail self.old.config v (map (mailed self.old.colour) (outbox_for v self.old))) }
         ensures done { (handlers : Handlers _ _ _) (part : Part _) → StandsFor handlers self.old part → IfOk result (λ _. (may_send (simulation_of handlers self.old.config).workers self.old.worker v part.outbox ≡ true) × StandsFor handlers self.new (part_after_send (simulation_of handlers self.old.config) v part) × (mail.new.items ≡ mail.old.items ++ mail_of_send (simulation_of handlers self.old.config) v part)) }
         ensures counted { (handlers : Handlers _ _ _) (part : Part _) → StandsFor handlers self.new part → IfOk result (λ _. PassesIn (simulation_of handlers self.old.config) (step.Send self.old.worker v) part 0 → ⊥) }
         ensures refused { (handlers : Handlers _ _ _) (part : Part _) → StandsFor handlers self.old part → IfErr result (λ fault. IsSendRefusal (simulation_of handlers self.old.config) self.old.worker v part fault) }

@@ -3,3 +3,4 @@ pub mod Guards
 pub mod Ripe
 pub mod Past
 pub mod Used
+pub mod Steps

@@ -12,11 +12,10 @@ ghost use Rattle.vt_model.specs.Settings.{end_of};
 ghost use Rattle.vt_pending.specs.Letters.{IsRising};
 ghost use Rattle.vt_stream.specs.Words.{moved};
 ghost use Rattle.vt_steps.specs.Letters.{unstamped, stamped, signed};
-ghost use Rattle.vt_steps.specs.ProcessSteps.{execute_process};
 ghost use Rattle.vt_steps.specs.StandsFor.{IsRemembered};
 ghost use Rattle.vt_steps.specs.World.{LogicalProcess};
 ghost use Rattle.vt_lp.specs.Held.{StandsFor, AllWithinRun, IsReady, remembered};
-ghost use Rattle.vt_lp.specs.Guards.{IsDone, IsExecuteRefusal};
+ghost use Rattle.vt_lp.specs.Steps.{execute_held, DoesAtProcess, RefusesExecution};
 ghost use Rattle.vt_past.specs.Events.{past_event};
 ghost use Rattle.vt_past.specs.Kept.{GaveEvent};
 ghost use Rattle.vt_lp.specs.Used.{count_sends, after_letters, IsLeft};
@@ -50,8 +49,8 @@ impl<M: EventModel> Lp<M> {
         serial: &mut u64,
         outbox: &mut List<Letter<M::Payload>>,
     ) -> Result<(), Fault>
-        ensures done { let sim = simulation_of (M.handlers model.now) self.old.config in (h : LogicalProcess _) → StandsFor (M.handlers model.now) self.old h → IfOk result (λ _. IsDone (M.handlers model.now) self.new (execute_process sim self.old.lp (self.old.lp % self.old.config.workers) serial.old h) outbox.old outbox.new serial.old serial.new) }
-        ensures refused { let sim = simulation_of (M.handlers model.now) self.old.config in (h : LogicalProcess _) → StandsFor (M.handlers model.now) self.old h → IfErr result (λ fault. IsExecuteRefusal sim self.old.lp serial.old (execute_process sim self.old.lp (self.old.lp % self.old.config.workers) serial.old h) fault) }
+        ensures done { DoesAtProcess (M.handlers model.now) self.old self.new (execute_held (M.handlers model.now) self.old serial.old) outbox.old outbox.new serial.old serial.new result }
+        ensures refused { RefusesExecution (M.handlers model.now) self.old serial.old result }
         ensures faults { IfErr result (λ fault. (fault ≡ NotLawful) ⊎ ((fault ≡ Exhausted) ⊎ (fault ≡ Memory))) }
         ensures no_event { ready_event self.old.pending self.old.past ≡ None → result ≡ Err NotLawful }
         ensures unchanged { (h : LogicalProcess _) → StandsFor (M.handlers model.now) self.old h → IfErr result (λ fault. self.new ≡ self.old) }
@@ -84,8 +83,8 @@ impl<M: EventModel> Lp<M> {
         spare: &mut Spare<M::Payload, M::Kept>,
         out: &mut Out<M::Payload>,
     ) -> Result<(), Fault>
-        ensures done { let sim = simulation_of (M.handlers model.now) self.old.config in (h : LogicalProcess _) → StandsFor (M.handlers model.now) self.old h → IfOk result (λ _. IsDone (M.handlers model.now) self.new (execute_process sim self.old.lp (self.old.lp % self.old.config.workers) serial.old h) outbox.old outbox.new serial.old serial.new) }
-        ensures refused { let sim = simulation_of (M.handlers model.now) self.old.config in (h : LogicalProcess _) → StandsFor (M.handlers model.now) self.old h → IfErr result (λ fault. IsExecuteRefusal sim self.old.lp serial.old (execute_process sim self.old.lp (self.old.lp % self.old.config.workers) serial.old h) fault) }
+        ensures done { DoesAtProcess (M.handlers model.now) self.old self.new (execute_held (M.handlers model.now) self.old serial.old) outbox.old outbox.new serial.old serial.new result }
+        ensures refused { RefusesExecution (M.handlers model.now) self.old serial.old result }
         ensures faults { IfErr result (λ fault. (fault ≡ NotLawful) ⊎ ((fault ≡ Exhausted) ⊎ (fault ≡ Memory))) }
         ensures no_event { ready_event self.old.pending self.old.past ≡ None → result ≡ Err NotLawful }
         ensures unchanged { (h : LogicalProcess _) → StandsFor (M.handlers model.now) self.old h → IfErr result (λ fault. self.new ≡ self.old) }

@@ -8,10 +8,10 @@ ghost use Rattle.vt_key.specs.Times.{TimeBefore};
 ghost use Rattle.vt_key.specs.declared.fault.Fault.TheVariants.{NotLawful};
 ghost use Rattle.vt_model.specs.Handler.{Handlers};
 ghost use Rattle.vt_model.specs.Settings.{end_of};
-ghost use Rattle.vt_steps.specs.World.{LogicalProcess};
 ghost use Rattle.vt_steps.specs.ProcessSteps.{cancel_process, accept_process, can_annihilate};
-ghost use Rattle.vt_lp.specs.Held.{StandsFor, IsRisingPast};
-ghost use Rattle.vt_lp.specs.Guards.{IsDone, holds_letter, would_lead, is_first, TellsSame, may_come_after};
+ghost use Rattle.vt_lp.specs.Held.{IsRisingPast};
+ghost use Rattle.vt_lp.specs.Steps.{DoesAtProcess, RefusesAtProcess};
+ghost use Rattle.vt_lp.specs.Guards.{holds_letter, would_lead, is_first, TellsSame, may_come_after};
 
 use crate::Lp;
 use vt_key::{Fault, Letter, Rank, Sign, Stamp};
@@ -58,9 +58,9 @@ impl<M: EventModel> Lp<M> {
     ) -> Result<(), (Fault, Parcel<Letter<M::Payload>>)>
         requires dest { letter.event.dest ≡ self.old.lp }
         requires soon { TimeBefore letter.event.rank.key.time (end_of self.old.config) }
-        ensures done { (handlers : Handlers _ _ _) (h : LogicalProcess _) → StandsFor handlers self.old h → IfOk result (λ done. IsDone handlers self.new (accept_process letter h) [] [] 0 0) }
+        ensures done { (handlers : Handlers _ _ _) → DoesAtProcess handlers self.old self.new (accept_process letter) [] [] 0 0 result }
         ensures held { IfOk result (λ done. holds_letter self.old.pending self.old.waiting self.old.past letter.sign letter.event.rank ≡ false) }
-        ensures refused { (handlers : Handlers _ _ _) (h : LogicalProcess _) → StandsFor handlers self.old h → IfErr result (λ e. accept_process letter h ≡ None) }
+        ensures refused { (handlers : Handlers _ _ _) → RefusesAtProcess handlers self.old (accept_process letter) result }
         ensures kept { IfErr result (λ e. (e.0 ≡ NotLawful) × (e.1 ≡ letter) × (self.new ≡ self.old)) }
         ensures already { IfErr result (λ e. holds_letter self.old.pending self.old.waiting self.old.past letter.sign letter.event.rank ≡ true) }
         ensures behind { IfOk result (λ done. would_lead self.old.pending self.old.waiting letter.sign letter ≡ false → TellsSame self.old self.new) }
@@ -83,8 +83,8 @@ impl<M: EventModel> Lp<M> {
     ///
     /// [`Fault::NotLawful`]: one of the two is missing, or their keys differ. Nothing changes.
     pub fn cancel(&mut self, stamp: Stamp) -> Result<(), Fault>
-        ensures done { (handlers : Handlers _ _ _) (h : LogicalProcess _) → StandsFor handlers self.old h → IfOk result (λ done. IsDone handlers self.new (cancel_process stamp h) [] [] 0 0) }
-        ensures refused { (handlers : Handlers _ _ _) (h : LogicalProcess _) → StandsFor handlers self.old h → IfErr result (λ fault. cancel_process stamp h ≡ None) }
+        ensures done { (handlers : Handlers _ _ _) → DoesAtProcess handlers self.old self.new (cancel_process stamp) [] [] 0 0 result }
+        ensures refused { (handlers : Handlers _ _ _) → RefusesAtProcess handlers self.old (cancel_process stamp) result }
         ensures kept { IfErr result (λ fault. (fault ≡ NotLawful) × (self.new ≡ self.old)) }
         ensures lawful { IfOk result (λ done. can_annihilate stamp self.old.pending self.old.waiting ≡ true) }
         ensures unlawful { IfErr result (λ fault. can_annihilate stamp self.old.pending self.old.waiting ≡ false) }
@@ -103,8 +103,8 @@ impl<M: EventModel> Lp<M> {
         stamp: Stamp,
         spare: &mut Spare<M::Payload, M::Kept>,
     ) -> Result<(), Fault>
-        ensures done { (handlers : Handlers _ _ _) (h : LogicalProcess _) → StandsFor handlers self.old h → IfOk result (λ done. IsDone handlers self.new (cancel_process stamp h) [] [] 0 0) }
-        ensures refused { (handlers : Handlers _ _ _) (h : LogicalProcess _) → StandsFor handlers self.old h → IfErr result (λ fault. cancel_process stamp h ≡ None) }
+        ensures done { (handlers : Handlers _ _ _) → DoesAtProcess handlers self.old self.new (cancel_process stamp) [] [] 0 0 result }
+        ensures refused { (handlers : Handlers _ _ _) → RefusesAtProcess handlers self.old (cancel_process stamp) result }
         ensures kept { IfErr result (λ fault. (fault ≡ NotLawful) × (self.new ≡ self.old) × (spare.new ≡ spare.old)) }
         ensures freed { IfOk result (λ done. spare.new ≡ record spare.old { letters = spare.old.letters + 2 }) }
         ensures lawful { IfOk result (λ done. can_annihilate stamp self.old.pending self.old.waiting ≡ true) }

@@ -7,9 +7,8 @@ ghost use Rattle.vt_key.specs.declared.fault.Fault.TheVariants.{NotLawful};
 ghost use Rattle.vt_past.specs.Kept.{TookEvent};
 ghost use Rattle.vt_pending.specs.Letters.{IsRising};
 ghost use Rattle.vt_steps.specs.ProcessSteps.{undo_process};
-ghost use Rattle.vt_steps.specs.World.{LogicalProcess};
-ghost use Rattle.vt_lp.specs.Held.{StandsFor, AllWithinRun};
-ghost use Rattle.vt_lp.specs.Guards.{IsDone};
+ghost use Rattle.vt_lp.specs.Held.{AllWithinRun};
+ghost use Rattle.vt_lp.specs.Steps.{DoesAtProcess, RefusesAtProcess};
 ghost use Rattle.vt_lp.specs.Past.{must_undo_last};
 
 use crate::lp::Lp;
@@ -28,8 +27,8 @@ impl<M: EventModel> Lp<M> {
     /// [`Fault::NotLawful`]: there is no past event, or no letter forces the undo of the last one: no pending message
     /// is before it, and every waiting anti-message is after it. Nothing changes.
     pub fn undo(&mut self, model: &M, outbox: &mut List<Letter<M::Payload>>) -> Result<(), Fault>
-        ensures done { (h : LogicalProcess _) → StandsFor (M.handlers model.now) self.old h → IfOk result (λ _. IsDone (M.handlers model.now) self.new (undo_process h) outbox.old outbox.new 0 0) }
-        ensures refused { (h : LogicalProcess _) → StandsFor (M.handlers model.now) self.old h → IfErr result (λ fault. undo_process h ≡ None) }
+        ensures done { DoesAtProcess (M.handlers model.now) self.old self.new undo_process outbox.old outbox.new 0 0 result }
+        ensures refused { RefusesAtProcess (M.handlers model.now) self.old undo_process result }
         ensures lawful { IfOk result (λ done. must_undo_last self.old.pending self.old.waiting (last_or None self.old.past) ≡ true) }
         ensures unlawful { IfErr result (λ fault. must_undo_last self.old.pending self.old.waiting (last_or None self.old.past) ≡ false) }
         ensures kept { IfErr result (λ fault. (fault ≡ NotLawful) × (self.new ≡ self.old) × (outbox.new ≡ outbox.old)) }
@@ -53,8 +52,8 @@ impl<M: EventModel> Lp<M> {
         outbox: &mut List<Letter<M::Payload>>,
         spare: &mut Spare<M::Payload, M::Kept>,
     ) -> Result<(), Fault>
-        ensures done { (h : LogicalProcess _) → StandsFor (M.handlers model.now) self.old h → IfOk result (λ _. IsDone (M.handlers model.now) self.new (undo_process h) outbox.old outbox.new 0 0) }
-        ensures refused { (h : LogicalProcess _) → StandsFor (M.handlers model.now) self.old h → IfErr result (λ fault. undo_process h ≡ None) }
+        ensures done { DoesAtProcess (M.handlers model.now) self.old self.new undo_process outbox.old outbox.new 0 0 result }
+        ensures refused { RefusesAtProcess (M.handlers model.now) self.old undo_process result }
         ensures lawful { IfOk result (λ done. must_undo_last self.old.pending self.old.waiting (last_or None self.old.past) ≡ true) }
         ensures unlawful { IfErr result (λ fault. must_undo_last self.old.pending self.old.waiting (last_or None self.old.past) ≡ false) }
         ensures kept { IfErr result (λ fault. (fault ≡ NotLawful) × (self.new ≡ self.old) × (outbox.new ≡ outbox.old) × (spare.new ≡ spare.old)) }

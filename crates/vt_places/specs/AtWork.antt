@@ -1,14 +1,18 @@
 -- A worker at its place.
 use Rattle.std.specs.Prelude.{◌≡◌}
+use Rattle.vt_key.specs.Times.{Time}
 use Rattle.atomic_table.specs.Seated.{TableId}
 use Rattle.vt_model.specs.declared.settings.Config.{Config}
 use Rattle.vt_model.specs.Handler.{Handlers}
+use Rattle.vt_model.specs.Simulation.{Simulation, simulation_of}
+use Rattle.vt_steps.specs.declared.step.Step.{Step}
+use Rattle.vt_steps.specs.declared.step.Reply.{Reply}
 use Rattle.vt_kernel.specs.Held.{HeldWorker}
 use Rattle.vt_places.specs.declared.view.View.{View}
 use Rattle.vt_places.specs.declared.place.Place.{Place}
 use Rattle.vt_places.specs.declared.station.Station.{Station}
 use Rattle.vt_places.specs.Told.{station_config, station_table, place_view}
-use Rattle.vt_places.specs.Calls.{Reaches}
+use Rattle.vt_places.specs.Calls.{Reaches, Visited, Stays}
 
 -- what a contract sees of a worker at its place: the station's model, config and table, what its place knows, and its kernel
 pub record AtWork (M S P K : Type 0) : Type 0 where
@@ -49,3 +53,16 @@ pub record IsAtSameStation {M S P K : Type 0} (v w : AtWork M S P K) : Type 0 wh
 pub record IsAtSamePlace {M S P K : Type 0} (v w : AtWork M S P K) : Type 0 where
   pub station : IsAtSameStation v w
   pub view : w.view ≡ v.view
+
+-- what it knows and its kernel are as they were
+abbrev pub KeepsAll : {M S P K : Type 0} → AtWork M S P K → AtWork M S P K → Type 0
+KeepsAll v w = Stays v.view w.view × (w.kernel ≡ v.kernel)
+
+module _ {M S P K : Type 0} (handlers : M → Handlers S P K) where
+  -- the simulation that it runs
+  abbrev pub simulation_at : AtWork M S P K → Simulation S P
+  simulation_at w = simulation_of (handlers w.model) w.config
+
+  -- its visit of a cell with this step, after which its place was shown this floor
+  abbrev pub MakesVisit : AtWork M S P K → AtWork M S P K → Step → Reply → Time → Type 0
+  MakesVisit v w step reply seen = Visited (handlers v.model) v.config v.view v.kernel step reply w.kernel seen w.view

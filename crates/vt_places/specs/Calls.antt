@@ -27,7 +27,8 @@ use Rattle.vt_steps.specs.Marked.{Marked, marked, answered, made_done, IsMarkedR
 use Rattle.vt_kernel.specs.Held.{HeldWorker, StandsFor}
 use Rattle.vt_kernel.specs.Guards.{IsSendRefusal}
 use Rattle.vt_kernel.specs.Refusals.{PassesIn, IsStepRefusal}
-use Rattle.vt_cells.specs.Calls.{Acts, IsTooMuchMail, rounds_of}
+use Rattle.vt_kernel.specs.Steps.{IsTooMuchMail}
+use Rattle.vt_cells.specs.Calls.{Acts, rounds_of}
 use Rattle.vt_places.specs.declared.slot.Slot.{Slot}
 use Rattle.vt_places.specs.declared.view.View.{View}
 use Rattle.vt_places.specs.Hands.{Hand, empty_hand, holding}
@@ -246,6 +247,11 @@ module _ {S P : Type 0} (sim : Simulation S P) where
   IsRefusedAlone v steps step result =
       sim.workers ≡ 1 → (fault : Fault) → (IsRefusedAfter v steps step fault → result ≡ Err fault)
       × ((fault ≡ NotLawful) ⊎ (fault ≡ Closed) → result ≡ Err fault → IsRefusedAfter v steps step fault)
+
+module _ {S P K X : Type 0} (handlers : Handlers S P K) (config : Config) where
+  -- the same after the local steps that lead to a kernel of the place's worker
+  abbrev pub RefusesAlone : View P → HeldWorker S P K → Step → Result X Fault → Type 0
+  RefusesAlone v k step result = (reaches : Reaches handlers config v k) → IsRefusedAlone (simulation_of handlers config) v reaches.steps step result
 
 -- ---- what the book shows
 

@@ -2,6 +2,8 @@
 use Rattle.std.specs.Prelude.{ℕ}
 use Rattle.atomic_table.specs.Seated.{TableId}
 use Rattle.vt_model.specs.declared.settings.Config.{Config}
+use Rattle.vt_model.specs.Handler.{Handlers}
+use Rattle.vt_model.specs.Simulation.{Simulation, simulation_of}
 use Rattle.vt_places.specs.declared.place.Place.{Place}
 use Rattle.vt_places.specs.declared.station.Station.{Station}
 use Rattle.vt_places.specs.declared.view.View.{View}
@@ -16,6 +18,10 @@ module _ {M S P K : Type 0} where
   -- the config that it was made for
   abbrev pub station_config : Station M S P K → Config
   station_config station = station.table.shared.key.config
+
+  -- the simulation that it runs
+  abbrev pub station_run : (M → Handlers S P K) → Station M S P K → Simulation S P
+  station_run handlers station = simulation_of (handlers (station_model station)) (station_config station)
 
   -- its table, by which its places are known
   abbrev pub station_table : Station M S P K → TableId

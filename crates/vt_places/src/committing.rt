@@ -7,8 +7,8 @@ ghost use Rattle.vt_model.specs.Simulation.{simulation_of};
 ghost use Rattle.vt_model.specs.Settings.{end_of};
 ghost use Rattle.vt_steps.specs.declared.step.Step.TheVariants as step;
 ghost use Rattle.vt_steps.specs.declared.step.Reply.TheVariants as reply;
-ghost use Rattle.vt_places.specs.Told.{station_model, station_config, station_table, place_table, place_worker, place_view};
-ghost use Rattle.vt_places.specs.Calls.{Reaches, Visited, Closes, Unvisited, Stays, ShowsFloor, IsCommitRefusal, IsCloseRefusal, IsRecordsRefusal, IsHandOutRefusal, IsFloorLeft, AreRecordsShown, AreHandedOut, IsRefusedOnceClosed, IsRefusedAlone};
+ghost use Rattle.vt_places.specs.Told.{station_model, station_config, station_run, station_table, place_table, place_worker, place_view};
+ghost use Rattle.vt_places.specs.Calls.{Reaches, Visited, Closes, Unvisited, Stays, ShowsFloor, IsCommitRefusal, IsCloseRefusal, IsRecordsRefusal, IsHandOutRefusal, IsFloorLeft, AreRecordsShown, AreHandedOut, IsRefusedOnceClosed, IsRefusedAlone, RefusesAlone};
 
 use crate::place::Place;
 use crate::slot::Slot;
@@ -35,13 +35,13 @@ impl<M: EventModel> Station<M> {
         requires own { place_table place.old ≡ station_table self.now }
         requires kernel { Reaches (M.handlers (station_model self.now)) (station_config self.now) (place_view place.old) kernel.old }
         ensures same { (place_table place.new ≡ place_table place.old) × (place_worker place.new ≡ place_worker place.old) }
-        ensures done { let handlers = M.handlers (station_model self.now) in let config = station_config self.now in MatchResult result
-            (λ _. (shown : TimeValue) × (visited : Visited handlers config (place_view place.old) kernel.old (step.Commit (place_worker place.old)) reply.Done kernel.new shown (place_view place.new))
-            × ShowsFloor (end_of config) shown visited.visits.at.now × IsFloorLeft (simulation_of handlers config) (place_view place.old) (step.Commit (place_worker place.old)) shown)
+        ensures done { MatchResult result
+            (λ _. (shown : TimeValue) × (visited : Visited (M.handlers (station_model self.now)) (station_config self.now) (place_view place.old) kernel.old (step.Commit (place_worker place.old)) reply.Done kernel.new shown (place_view place.new))
+            × ShowsFloor (end_of (station_config self.now)) shown visited.visits.at.now × IsFloorLeft (station_run M.handlers self.now) (place_view place.old) (step.Commit (place_worker place.old)) shown)
             (λ _. Stays (place_view place.old) (place_view place.new) × (kernel.new ≡ kernel.old)) }
-        ensures refused { IfErr result (λ fault. IsCommitRefusal (simulation_of (M.handlers (station_model self.now)) (station_config self.now)) (place_view place.old) fault) }
+        ensures refused { IfErr result (λ fault. IsCommitRefusal (station_run M.handlers self.now) (place_view place.old) fault) }
         ensures closed { IsRefusedOnceClosed (place_view place.old) result }
-        ensures alone { let handlers = M.handlers (station_model self.now) in let config = station_config self.now in (reaches : Reaches handlers config (place_view place.old) kernel.old) → IsRefusedAlone (simulation_of handlers config) (place_view place.old) reaches.steps (step.Commit (place_worker place.old)) result }
+        ensures alone { RefusesAlone (M.handlers (station_model self.now)) (station_config self.now) (place_view place.old) kernel.old (step.Commit (place_worker place.old)) result }
         ensures ready { Reaches (M.handlers (station_model self.now)) (station_config self.now) (place_view place.new) kernel.new }
     {
         let batch = batch_of(alloc, kernel);
@@ -80,9 +80,9 @@ impl<M: EventModel> Station<M> {
     pub fn close(&self, place: &mut Place<M::Payload>) -> Result<(), Fault>
         requires own { place_table place.old ≡ station_table self.now }
         ensures same { (place_table place.new ≡ place_table place.old) × (place_worker place.new ≡ place_worker place.old) }
-        ensures done { let handlers = M.handlers (station_model self.now) in let config = station_config self.now in MatchResult result (λ _. Closes (simulation_of handlers config) (place_view place.old) (end_of config) (place_view place.new)) (λ _. Stays (place_view place.old) (place_view place.new)) }
-        ensures refused { IfErr result (λ fault. IsCloseRefusal (simulation_of (M.handlers (station_model self.now)) (station_config self.now)) (place_view place.old) fault) }
-        ensures alone { IsRefusedAlone (simulation_of (M.handlers (station_model self.now)) (station_config self.now)) (place_view place.old) [] step.Close result }
+        ensures done { MatchResult result (λ _. Closes (station_run M.handlers self.now) (place_view place.old) (end_of (station_config self.now)) (place_view place.new)) (λ _. Stays (place_view place.old) (place_view place.new)) }
+        ensures refused { IfErr result (λ fault. IsCloseRefusal (station_run M.handlers self.now) (place_view place.old) fault) }
+        ensures alone { IsRefusedAlone (station_run M.handlers self.now) (place_view place.old) [] step.Close result }
         ensures closed { IsRefusedOnceClosed (place_view place.old) result }
     {
         let seat = &mut place.seat;
@@ -118,10 +118,10 @@ impl<M: EventModel> Station<M> {
     ) -> Result<Vec<Record>, Fault>
         requires own { place_table place.old ≡ station_table self.now }
         ensures same { (place_table place.new ≡ place_table place.old) × (place_worker place.new ≡ place_worker place.old) }
-        ensures done { let handlers = M.handlers (station_model self.now) in let config = station_config self.now in MatchResult result
-            (λ v. (floor : TimeValue) × AreRecordsShown (simulation_of handlers config) (place_view place.old) floor v.items × Unvisited (place_view place.old) floor (place_view place.new))
+        ensures done { MatchResult result
+            (λ v. (floor : TimeValue) × AreRecordsShown (station_run M.handlers self.now) (place_view place.old) floor v.items × Unvisited (place_view place.old) floor (place_view place.new))
             (λ _. Stays (place_view place.old) (place_view place.new)) }
-        ensures refused { IfErr result (λ fault. IsRecordsRefusal (simulation_of (M.handlers (station_model self.now)) (station_config self.now)) fault) }
+        ensures refused { IfErr result (λ fault. IsRecordsRefusal (station_run M.handlers self.now) fault) }
     {
         let seat = &mut place.seat;
         if !self.claim_book(seat) {
@@ -168,11 +168,11 @@ impl<M: EventModel> Station<M> {
     ) -> Result<(), Fault>
         requires own { place_table place.old ≡ station_table self.now }
         ensures same { (place_table place.new ≡ place_table place.old) × (place_worker place.new ≡ place_worker place.old) }
-        ensures done { let handlers = M.handlers (station_model self.now) in let config = station_config self.now in MatchResult result
-            (λ _. (floor : TimeValue) × AreHandedOut (simulation_of handlers config) (place_view place.old) floor from records.new.items × Unvisited (place_view place.old) floor (place_view place.new))
+        ensures done { MatchResult result
+            (λ _. (floor : TimeValue) × AreHandedOut (station_run M.handlers self.now) (place_view place.old) floor from records.new.items × Unvisited (place_view place.old) floor (place_view place.new))
             (λ _. Stays (place_view place.old) (place_view place.new)) }
         ensures unchanged { IfErr result (λ _. records.new.items ≡ records.old.items) }
-        ensures refused { IfErr result (λ fault. IsHandOutRefusal (simulation_of (M.handlers (station_model self.now)) (station_config self.now)) fault) }
+        ensures refused { IfErr result (λ fault. IsHandOutRefusal (station_run M.handlers self.now) fault) }
         ensures alone { (station_config self.now).workers ≡ 1 → result ≡ Err NotLawful }
     {
         if self.workers == 1 {
@@ -210,7 +210,7 @@ impl<M: EventModel> Station<M> {
     /// [`Fault::Busy`]: another place had claimed the book, or some of its records were handed out. Then the book is as it was.
     pub fn take_out(&self, alloc: Global, place: Place<M::Payload>) -> Result<Vec<Record>, Fault>
         requires own { place_table place ≡ station_table self.now }
-        ensures shown { let sim = simulation_of (M.handlers (station_model self.now)) (station_config self.now) in IfOk result (λ v. (floor : TimeValue) × AreRecordsShown sim (place_view place) floor v.items) }
+        ensures shown { IfOk result (λ v. (floor : TimeValue) × AreRecordsShown (station_run M.handlers self.now) (place_view place) floor v.items) }
         ensures refused { IfErr result (λ fault. (fault ≡ Busy) × (1 < (station_config self.now).workers)) }
     {
         let Place { mut seat, .. } = place;
@@ -236,7 +236,7 @@ impl<M: EventModel> Station<M> {
     /// [`Fault::Busy`]: another place had claimed the book, or some of its records were handed out.
     pub fn into_records(self, alloc: Global, place: Place<M::Payload>) -> Result<Vec<Record>, Fault>
         requires own { place_table place ≡ station_table self }
-        ensures shown { let sim = simulation_of (M.handlers (station_model self)) (station_config self) in IfOk result (λ v. (floor : TimeValue) × AreRecordsShown sim (place_view place) floor v.items) }
+        ensures shown { IfOk result (λ v. (floor : TimeValue) × AreRecordsShown (station_run M.handlers self) (place_view place) floor v.items) }
         ensures refused { IfErr result (λ fault. (fault ≡ Busy) × (1 < (station_config self).workers)) }
     {
         self.take_out(alloc, place)

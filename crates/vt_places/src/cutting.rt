@@ -6,8 +6,8 @@ ghost use Rattle.vt_steps.specs.declared.step.Step.TheVariants as step;
 ghost use Rattle.vt_steps.specs.declared.step.Reply.TheVariants as reply;
 ghost use Rattle.vt_board.specs.Calls.{reply_of};
 ghost use Rattle.vt_cells.specs.Calls.{answer_of};
-ghost use Rattle.vt_places.specs.Told.{station_model, station_config, station_table, place_table, place_worker, place_view};
-ghost use Rattle.vt_places.specs.Calls.{Reaches, Visited, Stays, IsCutRefusal, IsReportRefusal, IsRefusedAlone, answer_as};
+ghost use Rattle.vt_places.specs.Told.{station_model, station_config, station_run, station_table, place_table, place_worker, place_view};
+ghost use Rattle.vt_places.specs.Calls.{Reaches, Visited, Stays, IsCutRefusal, IsReportRefusal, answer_as, RefusesAlone};
 
 use crate::place::Place;
 use crate::slot::Slot;
@@ -42,11 +42,11 @@ impl<M: EventModel> Station<M> {
         requires own { place_table place.old ≡ station_table self.now }
         requires kernel { Reaches (M.handlers (station_model self.now)) (station_config self.now) (place_view place.old) kernel.old }
         ensures same { (place_table place.new ≡ place_table place.old) × (place_worker place.new ≡ place_worker place.old) }
-        ensures done { let handlers = M.handlers (station_model self.now) in let config = station_config self.now in MatchResult result
-            (λ _. Visited handlers config (place_view place.old) kernel.old (step.Cut (place_worker place.old)) reply.Done kernel.new (place_view place.old).seen (place_view place.new))
+        ensures done { MatchResult result
+            (λ _. Visited (M.handlers (station_model self.now)) (station_config self.now) (place_view place.old) kernel.old (step.Cut (place_worker place.old)) reply.Done kernel.new (place_view place.old).seen (place_view place.new))
             (λ _. Stays (place_view place.old) (place_view place.new) × (kernel.new ≡ kernel.old)) }
-        ensures refused { IfErr result (λ fault. IsCutRefusal (simulation_of (M.handlers (station_model self.now)) (station_config self.now)) (place_view place.old) fault) }
-        ensures alone { let handlers = M.handlers (station_model self.now) in let config = station_config self.now in (reaches : Reaches handlers config (place_view place.old) kernel.old) → IsRefusedAlone (simulation_of handlers config) (place_view place.old) reaches.steps (step.Cut (place_worker place.old)) result }
+        ensures refused { IfErr result (λ fault. IsCutRefusal (station_run M.handlers self.now) (place_view place.old) fault) }
+        ensures alone { RefusesAlone (M.handlers (station_model self.now)) (station_config self.now) (place_view place.old) kernel.old (step.Cut (place_worker place.old)) result }
         ensures ready { Reaches (M.handlers (station_model self.now)) (station_config self.now) (place_view place.new) kernel.new }
     {
         let worker = place.worker;
@@ -83,11 +83,11 @@ impl<M: EventModel> Station<M> {
         requires own { place_table place.old ≡ station_table self.now }
         requires kernel { Reaches (M.handlers (station_model self.now)) (station_config self.now) (place_view place.old) kernel.old }
         ensures same { (place_table place.new ≡ place_table place.old) × (place_worker place.new ≡ place_worker place.old) }
-        ensures done { let handlers = M.handlers (station_model self.now) in let config = station_config self.now in MatchResult result
-            (λ report. Visited handlers config (place_view place.old) kernel.old (step.Report (place_worker place.old)) (reply_of report) kernel.new (place_view place.old).seen (place_view place.new))
+        ensures done { MatchResult result
+            (λ report. Visited (M.handlers (station_model self.now)) (station_config self.now) (place_view place.old) kernel.old (step.Report (place_worker place.old)) (reply_of report) kernel.new (place_view place.old).seen (place_view place.new))
             (λ _. Stays (place_view place.old) (place_view place.new) × (kernel.new ≡ kernel.old)) }
-        ensures refused { IfErr result (λ fault. IsReportRefusal (simulation_of (M.handlers (station_model self.now)) (station_config self.now)) (place_view place.old) fault) }
-        ensures alone { let handlers = M.handlers (station_model self.now) in let config = station_config self.now in (reaches : Reaches handlers config (place_view place.old) kernel.old) → IsRefusedAlone (simulation_of handlers config) (place_view place.old) reaches.steps (step.Report (place_worker place.old)) result }
+        ensures refused { IfErr result (λ fault. IsReportRefusal (station_run M.handlers self.now) (place_view place.old) fault) }
+        ensures alone { RefusesAlone (M.handlers (station_model self.now)) (station_config self.now) (place_view place.old) kernel.old (step.Report (place_worker place.old)) result }
         ensures ready { Reaches (M.handlers (station_model self.now)) (station_config self.now) (place_view place.new) kernel.new }
     {
         let values = kernel.report_values();

@@ -10,7 +10,7 @@ ghost use Rattle.vt_steps.specs.declared.step.Step.TheVariants as step;
 ghost use Rattle.vt_steps.specs.declared.step.Reply.TheVariants as reply;
 ghost use Rattle.vt_steps.specs.Letters.{is_empty};
 ghost use Rattle.vt_places.specs.Kept.{Rests};
-ghost use Rattle.vt_places.specs.Told.{station_model, station_config, station_table, place_table, place_worker, place_view};
+ghost use Rattle.vt_places.specs.Told.{station_model, station_config, station_run, station_table, place_table, place_worker, place_view};
 ghost use Rattle.vt_places.specs.Calls.{IsShown, Reaches, Visited};
 
 use crate::place::Place;
@@ -39,9 +39,9 @@ impl<M: EventModel> Station<M> {
         requires worker { seat.old.me.0.worker ≡ worker }
         requires known { worker < self.now.workers }
         requires accepted { is_empty kernel.now.arrived ≡ true }
-        requires kernel { let key = self.now.table.shared.key in Reaches (M.handlers key.model.value) key.config seat.old.me.0 kernel.now }
+        requires kernel { Reaches (M.handlers (station_model self.now)) (station_config self.now) seat.old.me.0 kernel.now }
         ensures same { (seat.new.table_id ≡ seat.old.table_id) × (seat.new.id ≡ seat.old.id) × Rests seat.new.me }
-        ensures done { let key = self.now.table.shared.key in result ≡ true → Visited (M.handlers key.model.value) key.config seat.old.me.0 kernel.now (step.Fetch worker) reply.Done kernel.now seat.old.me.0.seen seat.new.me.0 }
+        ensures done { result ≡ true → Visited (M.handlers (station_model self.now)) (station_config self.now) seat.old.me.0 kernel.now (step.Fetch worker) reply.Done kernel.now seat.old.me.0.seen seat.new.me.0 }
         ensures not { result ≡ false → seat.new.me ≡ seat.old.me }
     {
         self.load::<Brand, Kernel<M>>(seat, worker as usize, kernel) == EMPTY
@@ -53,7 +53,7 @@ impl<M: EventModel> Station<M> {
         requires own { place_table place.old ≡ station_table self.now }
         ensures same { (place_table place.new ≡ place_table place.old) × (place_worker place.new ≡ place_worker place.old) }
         ensures unchanged { place_view place.new ≡ place_view place.old }
-        ensures shown { IsShown (simulation_of (M.handlers (station_model self.now)) (station_config self.now)) (place_view place.old) }
+        ensures shown { IsShown (station_run M.handlers self.now) (place_view place.old) }
     {
         let _ = self.load::<Brand, ()>(&mut place.seat, 0, &());
     }

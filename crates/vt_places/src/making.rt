@@ -4,7 +4,7 @@ ghost use Rattle.std.specs.Prelude.{◌≡◌, ◌<◌, ◌≤◌, ◌+◌, ℕ,
 ghost use Rattle.vt_key.specs.declared.fault.Fault.TheVariants.{Memory};
 ghost use Rattle.vt_model.specs.Simulation.{simulation_of};
 ghost use Rattle.vt_places.specs.Kept.{first_view};
-ghost use Rattle.vt_places.specs.Told.{station_model, station_config, station_table};
+ghost use Rattle.vt_places.specs.Told.{station_model, station_config, station_run, station_table};
 ghost use Rattle.vt_places.specs.Making.{AreSlots, IsMaker, Opens, AreNew};
 
 use crate::place::{Place, place_of};
@@ -72,9 +72,9 @@ impl<M: EventModel> Station<M> {
     /// Makes the seat of the next worker out of the maker's.
     fn seat_next(&self, maker: &mut Seat<M>) -> Seat<M>
         requires table { maker.old.table_id ≡ self.now.table.shared.table_id }
-        requires maker { let key = self.now.table.shared.key in (i : ℕ) × (i < key.config.workers) × IsMaker (simulation_of (M.handlers key.model.value) key.config) i maker.old.me }
+        requires maker { (i : ℕ) × (i < (station_config self.now).workers) × IsMaker (station_run M.handlers self.now) i maker.old.me }
         ensures table { (maker.new.table_id ≡ maker.old.table_id) × (result.table_id ≡ maker.old.table_id) }
-        ensures made { let key = self.now.table.shared.key in let sim = simulation_of (M.handlers key.model.value) key.config in (i : ℕ) × IsMaker sim i maker.old.me × IsMaker sim (i + 1) maker.new.me × Opens sim i result.me }
+        ensures made { let sim = station_run M.handlers self.now in (i : ℕ) × IsMaker sim i maker.old.me × IsMaker sim (i + 1) maker.new.me × Opens sim i result.me }
     {
         self.table.shared.split_seat::<Next>(maker)
     }
@@ -109,8 +109,8 @@ impl<M: EventModel> Station<M> {
     ) -> Result<Vec<Place<M::Payload>>, AllocError>
         requires table { maker.table_id ≡ self.now.table.shared.table_id }
         requires workers { self.now.table.shared.key.config.workers ≡ workers }
-        requires maker { let key = self.now.table.shared.key in maker.me ≡ (first_view (simulation_of (M.handlers key.model.value) key.config), []) }
-        ensures places { let key = self.now.table.shared.key in IfOk result (λ v. (length v.items ≡ workers) × AreNew (simulation_of (M.handlers key.model.value) key.config) self.now.table.shared.table_id 0 v.items) }
+        requires maker { maker.me ≡ (first_view (station_run M.handlers self.now), []) }
+        ensures places { IfOk result (λ v. (length v.items ≡ workers) × AreNew (station_run M.handlers self.now) self.now.table.shared.table_id 0 v.items) }
     {
         let mut maker = maker;
         let mut places = Vec::new(alloc);

@@ -9,7 +9,7 @@ ghost use Rattle.vt_steps.specs.World.{Part};
 ghost use Rattle.vt_steps.specs.Letters.{is_empty};
 ghost use Rattle.vt_steps.specs.CellSteps.{may_send};
 ghost use Rattle.vt_kernel.specs.Held.{StandsFor};
-ghost use Rattle.vt_places.specs.Told.{station_model, station_config, station_table, place_table, place_worker, place_view};
+ghost use Rattle.vt_places.specs.Told.{station_model, station_config, station_run, station_table, place_table, place_worker, place_view};
 ghost use Rattle.vt_places.specs.Calls.{Reaches, Visited, Stays, IsPostRefusal, IsFetchRefusal};
 
 use crate::place::Place;
@@ -41,11 +41,11 @@ impl<M: EventModel> Station<M> {
         requires own { place_table place.old ≡ station_table self.now }
         requires kernel { Reaches (M.handlers (station_model self.now)) (station_config self.now) (place_view place.old) kernel.old }
         ensures same { (place_table place.new ≡ place_table place.old) × (place_worker place.new ≡ place_worker place.old) }
-        ensures done { let handlers = M.handlers (station_model self.now) in let config = station_config self.now in MatchResult result
-            (λ _. Visited handlers config (place_view place.old) kernel.old (step.Send (place_worker place.old) v) reply.Done kernel.new (place_view place.old).seen (place_view place.new))
+        ensures done { MatchResult result
+            (λ _. Visited (M.handlers (station_model self.now)) (station_config self.now) (place_view place.old) kernel.old (step.Send (place_worker place.old) v) reply.Done kernel.new (place_view place.old).seen (place_view place.new))
             (λ _. Stays (place_view place.old) (place_view place.new) × (kernel.new ≡ kernel.old)) }
-        ensures refused { let handlers = M.handlers (station_model self.now) in let config = station_config self.now in (part : Part _) → StandsFor handlers kernel.old part → IfErr result (λ fault. IsPostRefusal (simulation_of handlers config) (place_worker place.old) v part fault) }
-        ensures unlawful { let handlers = M.handlers (station_model self.now) in let config = station_config self.now in (part : Part _) → StandsFor handlers kernel.old part → may_send (simulation_of handlers config).workers (place_worker place.old) v part.outbox ≡ false → result ≡ Err NotLawful }
+        ensures refused { (part : Part _) → StandsFor (M.handlers (station_model self.now)) kernel.old part → IfErr result (λ fault. IsPostRefusal (station_run M.handlers self.now) (place_worker place.old) v part fault) }
+        ensures unlawful { (part : Part _) → StandsFor (M.handlers (station_model self.now)) kernel.old part → may_send (station_run M.handlers self.now).workers (place_worker place.old) v part.outbox ≡ false → result ≡ Err NotLawful }
         ensures ready { Reaches (M.handlers (station_model self.now)) (station_config self.now) (place_view place.new) kernel.new }
     {
         kernel.may_send(v)?;
@@ -78,10 +78,10 @@ impl<M: EventModel> Station<M> {
         requires own { place_table place.old ≡ station_table self.now }
         requires kernel { Reaches (M.handlers (station_model self.now)) (station_config self.now) (place_view place.old) kernel.old }
         ensures same { (place_table place.new ≡ place_table place.old) × (place_worker place.new ≡ place_worker place.old) }
-        ensures done { let handlers = M.handlers (station_model self.now) in let config = station_config self.now in MatchResult result
-            (λ _. Visited handlers config (place_view place.old) kernel.old (step.Fetch (place_worker place.old)) reply.Done kernel.new (place_view place.old).seen (place_view place.new))
+        ensures done { MatchResult result
+            (λ _. Visited (M.handlers (station_model self.now)) (station_config self.now) (place_view place.old) kernel.old (step.Fetch (place_worker place.old)) reply.Done kernel.new (place_view place.old).seen (place_view place.new))
             (λ _. Stays (place_view place.old) (place_view place.new) × (kernel.new ≡ kernel.old)) }
-        ensures refused { let handlers = M.handlers (station_model self.now) in let config = station_config self.now in (part : Part _) → StandsFor handlers kernel.old part → IfErr result (λ fault. IsFetchRefusal (simulation_of handlers config) (place_view place.old) part fault) }
+        ensures refused { (part : Part _) → StandsFor (M.handlers (station_model self.now)) kernel.old part → IfErr result (λ fault. IsFetchRefusal (station_run M.handlers self.now) (place_view place.old) part fault) }
         ensures unlawful { let handlers = M.handlers (station_model self.now) in (part : Part _) → StandsFor handlers kernel.old part → is_empty part.arrived ≡ false → result ≡ Err NotLawful }
         ensures ready { Reaches (M.handlers (station_model self.now)) (station_config self.now) (place_view place.new) kernel.new }
     {

@@ -9,17 +9,17 @@ ghost use Rattle.vt_steps.specs.World.{Part, opening_part};
 ghost use Rattle.vt_steps.specs.Finals.{worker_finals};
 ghost use Rattle.vt_steps.specs.Letters.{is_empty};
 ghost use Rattle.vt_steps.specs.CellSteps.{may_send};
-ghost use Rattle.vt_steps.specs.Cells.{local_step};
 ghost use Rattle.vt_steps.specs.declared.step.Step.TheVariants as step;
 ghost use Rattle.vt_steps.specs.declared.step.Reply.TheVariants as reply;
 ghost use Rattle.vt_board.specs.Calls.{reply_of};
 ghost use Rattle.vt_kernel.specs.Held.{StandsFor};
-ghost use Rattle.vt_kernel.specs.Guards.{IsDone, IsExecuteRefusal, IsAcceptRefusal, SettlesTo};
+ghost use Rattle.vt_kernel.specs.Guards.{SettlesTo};
+ghost use Rattle.vt_kernel.specs.Steps.{DoesStep, RefusesStep, RefusesExecute, RefusesAccept};
 ghost use Rattle.vt_kernel.specs.Refusals.{PassesIn};
 ghost use Rattle.vt_places.specs.Told.{station_model, station_config, station_table, place_table, place_view};
 ghost use Rattle.vt_places.specs.Making.{IsNew};
-ghost use Rattle.vt_places.specs.Calls.{Reaches, Visited, Closes, Unvisited, Stays, ShowsFloor, IsPostRefusal, IsFetchRefusal, IsCutRefusal, IsReportRefusal, IsCommitRefusal, IsCloseRefusal, IsRecordsRefusal, IsHandOutRefusal, IsFloorLeft, AreRecordsShown, AreHandedOut, IsRefusedOnceClosed, IsRefusedAlone};
-ghost use Rattle.vt_places.specs.AtWork.{IsAtSamePlace, IsAtSameStation};
+ghost use Rattle.vt_places.specs.Calls.{Reaches, Closes, Unvisited, Stays, ShowsFloor, IsPostRefusal, IsFetchRefusal, IsCutRefusal, IsReportRefusal, IsCommitRefusal, IsCloseRefusal, IsRecordsRefusal, IsHandOutRefusal, IsFloorLeft, AreRecordsShown, AreHandedOut, IsRefusedOnceClosed, IsRefusedAlone, RefusesAlone};
+ghost use Rattle.vt_places.specs.AtWork.{IsAtSamePlace, IsAtSameStation, KeepsAll, simulation_at, MakesVisit};
 
 use crate::place::Place;
 use crate::station::Station;
@@ -133,9 +133,9 @@ impl<'a, M: EventModel> Worker<'a, M> {
     /// [`Fault`]: as [`Kernel::execute`] says; the worker is unchanged.
     pub fn execute(&mut self, lp: u32) -> Result<(), Fault>
         ensures place { IsAtSamePlace self.old self.new }
-        ensures done { (part : Part _) → StandsFor (M.handlers self.old.model) self.old.kernel part → IfOk result (λ done. IsDone (M.handlers self.old.model) self.new.kernel (local_step (simulation_of (M.handlers self.old.model) self.old.kernel.config) self.old.kernel.worker (step.Execute lp) part)) }
+        ensures done { DoesStep (M.handlers self.old.model) self.old.kernel self.new.kernel (step.Execute lp) result }
         ensures counted { (part : Part _) → StandsFor (M.handlers self.old.model) self.new.kernel part → IfOk result (λ done. PassesIn (simulation_of (M.handlers self.old.model) self.old.kernel.config) (step.Execute lp) part 0 → ⊥) }
-        ensures refused { (part : Part _) → StandsFor (M.handlers self.old.model) self.old.kernel part → IfErr result (λ fault. IsExecuteRefusal (simulation_of (M.handlers self.old.model) self.old.kernel.config) lp (local_step (simulation_of (M.handlers self.old.model) self.old.kernel.config) self.old.kernel.worker (step.Execute lp) part) fault) }
+        ensures refused { RefusesExecute (M.handlers self.old.model) self.old.kernel lp result }
         ensures kept { IfErr result (λ _. self.new.kernel ≡ self.old.kernel) }
     {
         let mut out = Out::new(self.config, 0, When::tick(0), 0);
@@ -145,9 +145,9 @@ impl<'a, M: EventModel> Worker<'a, M> {
     /// As [`Worker::execute`], with an `out` that the caller lends, as [`Kernel::execute_reusing`] says.
     pub fn execute_reusing(&mut self, lp: u32, out: &mut Out<M::Payload>) -> Result<(), Fault>
         ensures place { IsAtSamePlace self.old self.new }
-        ensures done { (part : Part _) → StandsFor (M.handlers self.old.model) self.old.kernel part → IfOk result (λ done. IsDone (M.handlers self.old.model) self.new.kernel (local_step (simulation_of (M.handlers self.old.model) self.old.kernel.config) self.old.kernel.worker (step.Execute lp) part)) }
+        ensures done { DoesStep (M.handlers self.old.model) self.old.kernel self.new.kernel (step.Execute lp) result }
         ensures counted { (part : Part _) → StandsFor (M.handlers self.old.model) self.new.kernel part → IfOk result (λ done. PassesIn (simulation_of (M.handlers self.old.model) self.old.kernel.config) (step.Execute lp) part 0 → ⊥) }
-        ensures refused { (part : Part _) → StandsFor (M.handlers self.old.model) self.old.kernel part → IfErr result (λ fault. IsExecuteRefusal (simulation_of (M.handlers self.old.model) self.old.kernel.config) lp (local_step (simulation_of (M.handlers self.old.model) self.old.kernel.config) self.old.kernel.worker (step.Execute lp) part) fault) }
+        ensures refused { RefusesExecute (M.handlers self.old.model) self.old.kernel lp result }
         ensures kept { IfErr result (λ _. self.new.kernel ≡ self.old.kernel) }
     {
         self.kernel.execute_reusing(self.alloc, self.model, lp, out)
@@ -158,8 +158,8 @@ impl<'a, M: EventModel> Worker<'a, M> {
     /// [`Fault::NotLawful`]: as [`Kernel::undo`] says; the worker is unchanged.
     pub fn undo(&mut self, lp: u32) -> Result<(), Fault>
         ensures place { IsAtSamePlace self.old self.new }
-        ensures done { (part : Part _) → StandsFor (M.handlers self.old.model) self.old.kernel part → IfOk result (λ done. IsDone (M.handlers self.old.model) self.new.kernel (local_step (simulation_of (M.handlers self.old.model) self.old.kernel.config) self.old.kernel.worker (step.Undo lp) part)) }
-        ensures refused { (part : Part _) → StandsFor (M.handlers self.old.model) self.old.kernel part → IfErr result (λ _. local_step (simulation_of (M.handlers self.old.model) self.old.kernel.config) self.old.kernel.worker (step.Undo lp) part ≡ None) }
+        ensures done { DoesStep (M.handlers self.old.model) self.old.kernel self.new.kernel (step.Undo lp) result }
+        ensures refused { RefusesStep (M.handlers self.old.model) self.old.kernel (step.Undo lp) result }
         ensures kept { IfErr result (λ fault. (fault ≡ NotLawful) × (self.new.kernel ≡ self.old.kernel)) }
     {
         self.kernel.undo(self.model, lp)
@@ -170,8 +170,8 @@ impl<'a, M: EventModel> Worker<'a, M> {
     /// [`Fault::NotLawful`]: as [`Kernel::cancel`] says; the worker is unchanged.
     pub fn cancel(&mut self, lp: u32, stamp: Stamp) -> Result<(), Fault>
         ensures place { IsAtSamePlace self.old self.new }
-        ensures done { (part : Part _) → StandsFor (M.handlers self.old.model) self.old.kernel part → IfOk result (λ done. IsDone (M.handlers self.old.model) self.new.kernel (local_step (simulation_of (M.handlers self.old.model) self.old.kernel.config) self.old.kernel.worker (step.Cancel lp stamp) part)) }
-        ensures refused { (part : Part _) → StandsFor (M.handlers self.old.model) self.old.kernel part → IfErr result (λ _. local_step (simulation_of (M.handlers self.old.model) self.old.kernel.config) self.old.kernel.worker (step.Cancel lp stamp) part ≡ None) }
+        ensures done { DoesStep (M.handlers self.old.model) self.old.kernel self.new.kernel (step.Cancel lp stamp) result }
+        ensures refused { RefusesStep (M.handlers self.old.model) self.old.kernel (step.Cancel lp stamp) result }
         ensures kept { IfErr result (λ fault. (fault ≡ NotLawful) × (self.new.kernel ≡ self.old.kernel)) }
     {
         self.kernel.cancel(lp, stamp)
@@ -182,8 +182,8 @@ impl<'a, M: EventModel> Worker<'a, M> {
     /// [`Fault::NotLawful`]: there is none, or its process holds it already; the worker is unchanged.
     pub fn home(&mut self) -> Result<(), Fault>
         ensures place { IsAtSamePlace self.old self.new }
-        ensures done { (part : Part _) → StandsFor (M.handlers self.old.model) self.old.kernel part → IfOk result (λ done. IsDone (M.handlers self.old.model) self.new.kernel (local_step (simulation_of (M.handlers self.old.model) self.old.kernel.config) self.old.kernel.worker (step.Home self.old.kernel.worker) part)) }
-        ensures refused { (part : Part _) → StandsFor (M.handlers self.old.model) self.old.kernel part → IfErr result (λ _. local_step (simulation_of (M.handlers self.old.model) self.old.kernel.config) self.old.kernel.worker (step.Home self.old.kernel.worker) part ≡ None) }
+        ensures done { DoesStep (M.handlers self.old.model) self.old.kernel self.new.kernel (step.Home self.old.kernel.worker) result }
+        ensures refused { RefusesStep (M.handlers self.old.model) self.old.kernel (step.Home self.old.kernel.worker) result }
         ensures kept { IfErr result (λ fault. (fault ≡ NotLawful) × (self.new.kernel ≡ self.old.kernel)) }
     {
         self.kernel.home()
@@ -194,8 +194,8 @@ impl<'a, M: EventModel> Worker<'a, M> {
     /// [`Fault`]: as [`Kernel::accept`] says; the worker is unchanged.
     pub fn accept(&mut self, i: u64) -> Result<(), Fault>
         ensures place { IsAtSamePlace self.old self.new }
-        ensures done { (part : Part _) → StandsFor (M.handlers self.old.model) self.old.kernel part → IfOk result (λ done. IsDone (M.handlers self.old.model) self.new.kernel (local_step (simulation_of (M.handlers self.old.model) self.old.kernel.config) self.old.kernel.worker (step.Accept self.old.kernel.worker i) part)) }
-        ensures refused { (part : Part _) → StandsFor (M.handlers self.old.model) self.old.kernel part → IfErr result (λ fault. IsAcceptRefusal (local_step (simulation_of (M.handlers self.old.model) self.old.kernel.config) self.old.kernel.worker (step.Accept self.old.kernel.worker i) part) fault) }
+        ensures done { DoesStep (M.handlers self.old.model) self.old.kernel self.new.kernel (step.Accept self.old.kernel.worker i) result }
+        ensures refused { RefusesAccept (M.handlers self.old.model) self.old.kernel i result }
         ensures kept { IfErr result (λ _. self.new.kernel ≡ self.old.kernel) }
     {
         self.kernel.accept(self.alloc, i)
@@ -217,10 +217,10 @@ impl<'a, M: EventModel> Worker<'a, M> {
     pub fn post(&mut self, v: u32) -> Result<(), Fault>
         ensures station { IsAtSameStation self.old self.new }
         ensures done { MatchResult result
-            (λ _. Visited (M.handlers self.old.model) self.old.config self.old.view self.old.kernel (step.Send self.old.kernel.worker v) reply.Done self.new.kernel self.old.view.seen self.new.view)
-            (λ _. Stays self.old.view self.new.view × (self.new.kernel ≡ self.old.kernel)) }
-        ensures unlawful { (part : Part _) → StandsFor (M.handlers self.old.model) self.old.kernel part → may_send (simulation_of (M.handlers self.old.model) self.old.config).workers self.old.kernel.worker v part.outbox ≡ false → result ≡ Err NotLawful }
-        ensures refused { (part : Part _) → StandsFor (M.handlers self.old.model) self.old.kernel part → IfErr result (λ fault. IsPostRefusal (simulation_of (M.handlers self.old.model) self.old.config) self.old.kernel.worker v part fault) }
+            (λ _. MakesVisit M.handlers self.old self.new (step.Send self.old.kernel.worker v) reply.Done self.old.view.seen)
+            (λ _. KeepsAll self.old self.new) }
+        ensures unlawful { (part : Part _) → StandsFor (M.handlers self.old.model) self.old.kernel part → may_send (simulation_at M.handlers self.old).workers self.old.kernel.worker v part.outbox ≡ false → result ≡ Err NotLawful }
+        ensures refused { (part : Part _) → StandsFor (M.handlers self.old.model) self.old.kernel part → IfErr result (λ fault. IsPostRefusal (simulation_at M.handlers self.old) self.old.kernel.worker v part fault) }
     {
         self.station.post(&mut self.place, &mut self.kernel, v)
     }
@@ -231,10 +231,10 @@ impl<'a, M: EventModel> Worker<'a, M> {
     pub fn fetch(&mut self) -> Result<(), Fault>
         ensures station { IsAtSameStation self.old self.new }
         ensures done { MatchResult result
-            (λ _. Visited (M.handlers self.old.model) self.old.config self.old.view self.old.kernel (step.Fetch self.old.kernel.worker) reply.Done self.new.kernel self.old.view.seen self.new.view)
-            (λ _. Stays self.old.view self.new.view × (self.new.kernel ≡ self.old.kernel)) }
+            (λ _. MakesVisit M.handlers self.old self.new (step.Fetch self.old.kernel.worker) reply.Done self.old.view.seen)
+            (λ _. KeepsAll self.old self.new) }
         ensures unlawful { (part : Part _) → StandsFor (M.handlers self.old.model) self.old.kernel part → is_empty part.arrived ≡ false → result ≡ Err NotLawful }
-        ensures refused { (part : Part _) → StandsFor (M.handlers self.old.model) self.old.kernel part → IfErr result (λ fault. IsFetchRefusal (simulation_of (M.handlers self.old.model) self.old.config) self.old.view part fault) }
+        ensures refused { (part : Part _) → StandsFor (M.handlers self.old.model) self.old.kernel part → IfErr result (λ fault. IsFetchRefusal (simulation_at M.handlers self.old) self.old.view part fault) }
     {
         self.station.fetch(&mut self.place, &mut self.kernel)
     }
@@ -245,10 +245,10 @@ impl<'a, M: EventModel> Worker<'a, M> {
     pub fn cut(&mut self) -> Result<(), Fault>
         ensures station { IsAtSameStation self.old self.new }
         ensures done { MatchResult result
-            (λ _. Visited (M.handlers self.old.model) self.old.config self.old.view self.old.kernel (step.Cut self.old.kernel.worker) reply.Done self.new.kernel self.old.view.seen self.new.view)
-            (λ _. Stays self.old.view self.new.view × (self.new.kernel ≡ self.old.kernel)) }
-        ensures refused { IfErr result (λ fault. IsCutRefusal (simulation_of (M.handlers self.old.model) self.old.config) self.old.view fault) }
-        ensures alone { (reaches : Reaches (M.handlers self.old.model) self.old.config self.old.view self.old.kernel) → IsRefusedAlone (simulation_of (M.handlers self.old.model) self.old.config) self.old.view reaches.steps (step.Cut self.old.kernel.worker) result }
+            (λ _. MakesVisit M.handlers self.old self.new (step.Cut self.old.kernel.worker) reply.Done self.old.view.seen)
+            (λ _. KeepsAll self.old self.new) }
+        ensures refused { IfErr result (λ fault. IsCutRefusal (simulation_at M.handlers self.old) self.old.view fault) }
+        ensures alone { RefusesAlone (M.handlers self.old.model) self.old.config self.old.view self.old.kernel (step.Cut self.old.kernel.worker) result }
     {
         self.station.cut(&mut self.place, &mut self.kernel)
     }
@@ -259,10 +259,10 @@ impl<'a, M: EventModel> Worker<'a, M> {
     pub fn report(&mut self) -> Result<Report, Fault>
         ensures station { IsAtSameStation self.old self.new }
         ensures done { MatchResult result
-            (λ report. Visited (M.handlers self.old.model) self.old.config self.old.view self.old.kernel (step.Report self.old.kernel.worker) (reply_of report) self.new.kernel self.old.view.seen self.new.view)
-            (λ _. Stays self.old.view self.new.view × (self.new.kernel ≡ self.old.kernel)) }
-        ensures refused { IfErr result (λ fault. IsReportRefusal (simulation_of (M.handlers self.old.model) self.old.config) self.old.view fault) }
-        ensures alone { (reaches : Reaches (M.handlers self.old.model) self.old.config self.old.view self.old.kernel) → IsRefusedAlone (simulation_of (M.handlers self.old.model) self.old.config) self.old.view reaches.steps (step.Report self.old.kernel.worker) result }
+            (λ report. MakesVisit M.handlers self.old self.new (step.Report self.old.kernel.worker) (reply_of report) self.old.view.seen)
+            (λ _. KeepsAll self.old self.new) }
+        ensures refused { IfErr result (λ fault. IsReportRefusal (simulation_at M.handlers self.old) self.old.view fault) }
+        ensures alone { RefusesAlone (M.handlers self.old.model) self.old.config self.old.view self.old.kernel (step.Report self.old.kernel.worker) result }
     {
         self.station.report(&mut self.place, &mut self.kernel)
     }
@@ -273,12 +273,12 @@ impl<'a, M: EventModel> Worker<'a, M> {
     pub fn commit(&mut self) -> Result<(), Fault>
         ensures station { IsAtSameStation self.old self.new }
         ensures done { MatchResult result
-            (λ _. (shown : Time) × (visited : Visited (M.handlers self.old.model) self.old.config self.old.view self.old.kernel (step.Commit self.old.kernel.worker) reply.Done self.new.kernel shown self.new.view)
-            × ShowsFloor (end_of self.old.config) shown visited.visits.at.now × IsFloorLeft (simulation_of (M.handlers self.old.model) self.old.config) self.old.view (step.Commit self.old.kernel.worker) shown)
-            (λ _. Stays self.old.view self.new.view × (self.new.kernel ≡ self.old.kernel)) }
-        ensures refused { IfErr result (λ fault. IsCommitRefusal (simulation_of (M.handlers self.old.model) self.old.config) self.old.view fault) }
+            (λ _. (shown : Time) × (visited : MakesVisit M.handlers self.old self.new (step.Commit self.old.kernel.worker) reply.Done shown)
+            × ShowsFloor (end_of self.old.config) shown visited.visits.at.now × IsFloorLeft (simulation_at M.handlers self.old) self.old.view (step.Commit self.old.kernel.worker) shown)
+            (λ _. KeepsAll self.old self.new) }
+        ensures refused { IfErr result (λ fault. IsCommitRefusal (simulation_at M.handlers self.old) self.old.view fault) }
         ensures closed { IsRefusedOnceClosed self.old.view result }
-        ensures alone { (reaches : Reaches (M.handlers self.old.model) self.old.config self.old.view self.old.kernel) → IsRefusedAlone (simulation_of (M.handlers self.old.model) self.old.config) self.old.view reaches.steps (step.Commit self.old.kernel.worker) result }
+        ensures alone { RefusesAlone (M.handlers self.old.model) self.old.config self.old.view self.old.kernel (step.Commit self.old.kernel.worker) result }
     {
         self.station
             .commit(self.alloc, &mut self.place, &mut self.kernel)
@@ -289,11 +289,11 @@ impl<'a, M: EventModel> Worker<'a, M> {
     /// [`Fault`]: as [`Station::close`] says; the worker is unchanged.
     pub fn close(&mut self) -> Result<(), Fault>
         ensures station { IsAtSameStation self.old self.new }
-        ensures done { MatchResult result (λ _. Closes (simulation_of (M.handlers self.old.model) self.old.config) self.old.view (end_of self.old.config) self.new.view) (λ _. Stays self.old.view self.new.view) }
+        ensures done { MatchResult result (λ _. Closes (simulation_at M.handlers self.old) self.old.view (end_of self.old.config) self.new.view) (λ _. Stays self.old.view self.new.view) }
         ensures kernel { self.new.kernel ≡ self.old.kernel }
-        ensures refused { IfErr result (λ fault. IsCloseRefusal (simulation_of (M.handlers self.old.model) self.old.config) self.old.view fault) }
+        ensures refused { IfErr result (λ fault. IsCloseRefusal (simulation_at M.handlers self.old) self.old.view fault) }
         ensures closed { IsRefusedOnceClosed self.old.view result }
-        ensures alone { IsRefusedAlone (simulation_of (M.handlers self.old.model) self.old.config) self.old.view [] step.Close result }
+        ensures alone { IsRefusedAlone (simulation_at M.handlers self.old) self.old.view [] step.Close result }
     {
         self.station.close(&mut self.place)
     }
@@ -305,9 +305,9 @@ impl<'a, M: EventModel> Worker<'a, M> {
         ensures station { IsAtSameStation self.old self.new }
         ensures kernel { self.new.kernel ≡ self.old.kernel }
         ensures done { MatchResult result
-            (λ v. (floor : Time) × AreRecordsShown (simulation_of (M.handlers self.old.model) self.old.config) self.old.view floor v.items × Unvisited self.old.view floor self.new.view)
+            (λ v. (floor : Time) × AreRecordsShown (simulation_at M.handlers self.old) self.old.view floor v.items × Unvisited self.old.view floor self.new.view)
             (λ _. Stays self.old.view self.new.view) }
-        ensures refused { IfErr result (λ fault. IsRecordsRefusal (simulation_of (M.handlers self.old.model) self.old.config) fault) }
+        ensures refused { IfErr result (λ fault. IsRecordsRefusal (simulation_at M.handlers self.old) fault) }
     {
         self.station.records(self.alloc, &mut self.place)
     }
@@ -319,10 +319,10 @@ impl<'a, M: EventModel> Worker<'a, M> {
         ensures station { IsAtSameStation self.old self.new }
         ensures kernel { self.new.kernel ≡ self.old.kernel }
         ensures done { MatchResult result
-            (λ _. (floor : Time) × AreHandedOut (simulation_of (M.handlers self.old.model) self.old.config) self.old.view floor from records.new.items × Unvisited self.old.view floor self.new.view)
+            (λ _. (floor : Time) × AreHandedOut (simulation_at M.handlers self.old) self.old.view floor from records.new.items × Unvisited self.old.view floor self.new.view)
             (λ _. Stays self.old.view self.new.view) }
         ensures unchanged { IfErr result (λ _. records.new.items ≡ records.old.items) }
-        ensures refused { IfErr result (λ fault. IsHandOutRefusal (simulation_of (M.handlers self.old.model) self.old.config) fault) }
+        ensures refused { IfErr result (λ fault. IsHandOutRefusal (simulation_at M.handlers self.old) fault) }
         ensures alone { self.old.config.workers ≡ 1 → result ≡ Err NotLawful }
     {
         self.station.hand_out(&mut self.place, from, records)
@@ -334,7 +334,7 @@ impl<'a, M: EventModel> Worker<'a, M> {
     pub fn finals(&mut self) -> Result<Vec<u64>, Fault>
         ensures place { IsAtSamePlace self.old self.new }
         ensures kernel { self.new.kernel ≡ self.old.kernel }
-        ensures values { IfOk result (λ v. v.items ≡ worker_finals (simulation_of (M.handlers self.old.model) self.old.config) self.old.view.worker) }
+        ensures values { IfOk result (λ v. v.items ≡ worker_finals (simulation_at M.handlers self.old) self.old.view.worker) }
         ensures not_lawful { TimeBefore self.old.kernel.floor (end_of self.old.config) → result ≡ Err NotLawful }
         ensures refused { TimeAtMost (end_of self.old.config) self.old.kernel.floor → IfErr result (λ fault. fault ≡ Memory) }
     {

@@ -7,7 +7,8 @@ use Rattle.vt_steps.specs.declared.step.Reply.TheVariants.{Done}
 use Rattle.vt_steps.specs.Cells.{Cell, in_inbox}
 use Rattle.vt_steps.specs.Letters.{Counts, is_empty}
 use Rattle.vt_kernel.specs.Held.{HeldWorker, AllOwnMail}
-use Rattle.vt_cells.specs.Calls.{IsCellStepOf, IsTooMuchMail}
+use Rattle.vt_kernel.specs.Steps.{IsTooMuchMail}
+use Rattle.vt_cells.specs.Calls.{IsCellStepOf}
 use Rattle.vt_places.specs.declared.slot.Slot.TheVariants.{Inbox}
 use Rattle.vt_places.specs.Calls.{Known, IsFetchRefusal}
 use Rattle.vt_places.proofs.CallLemmas.{took-own, took-place, tried-there, tried-refused}
