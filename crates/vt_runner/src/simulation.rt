@@ -1,12 +1,11 @@
 //! A run of a model, and its text.
 
 ghost use Rattle.std.specs.Prelude.{◌≡◌, OnOk, IfErr};
-ghost use Rattle.std.specs.Io.KnownBytes.{Appends};
 ghost use Rattle.vt_model.specs.Histories.{IsLawful};
 ghost use Rattle.vt_model.specs.Simulation.{simulation_of};
 ghost use Rattle.vt_station.specs.Crew.{IsTold};
 ghost use Rattle.vt_runner.specs.Pieces.{AreWritten, IsUnread};
-ghost use Rattle.vt_tasks.specs.Runs.{run_text, text_below, PassesInRun, StopsWork, StopsBy};
+ghost use Rattle.vt_tasks.specs.Runs.{WritesWhole, StopsInThreads, StopsAsSet};
 
 use std::alloc::Global;
 use std::io::Write;
@@ -54,8 +53,8 @@ where
     M::State: Send,
     M::Kept: Send,
     requires lawful { IsLawful (simulation_of (M.handlers model.now) options.now.config) }
-    ensures ok { OnOk result (Appends (O.contents out.old) (O.contents out.new) (run_text options.now.text (M.handlers model.now) options.now.config)) }
-    ensures err { IfErr result (StopsWork options.now.config.workers (text_below options.now.text (M.handlers model.now) options.now.config) (run_text options.now.text (M.handlers model.now) options.now.config) (O.contents out.old) (O.contents out.new)) }
+    ensures ok { OnOk result (WritesWhole (M.handlers model.now) options.now (O.contents out.old) (O.contents out.new)) }
+    ensures err { IfErr result (StopsInThreads (M.handlers model.now) options.now (O.contents out.old) (O.contents out.new)) }
 {
     match run_workers(rt, alloc, options.config, model, watch, options.turns) {
         Ok(records) => print_records(out, records.as_slice(), options.text),
@@ -94,9 +93,9 @@ where
     requires config { crew.old.config ≡ options.now.config }
     requires lawful { IsLawful (simulation_of (M.handlers crew.old.model) options.now.config) }
     ensures ok { (start : _) → AreWritten options.now.text (M.handlers crew.old.model) options.now.config start (O.contents out.old) 0
-        → OnOk result (Appends start (O.contents out.new) (run_text options.now.text (M.handlers crew.old.model) options.now.config)) }
+        → OnOk result (WritesWhole (M.handlers crew.old.model) options.now start (O.contents out.new)) }
     ensures err { (start : _) → AreWritten options.now.text (M.handlers crew.old.model) options.now.config start (O.contents out.old) 0
-        → IfErr result (StopsWork options.now.config.workers (text_below options.now.text (M.handlers crew.old.model) options.now.config) (run_text options.now.text (M.handlers crew.old.model) options.now.config) start (O.contents out.new)) }
+        → IfErr result (StopsInThreads (M.handlers crew.old.model) options.now start (O.contents out.new)) }
 {
     let mut shares = Shares::new(alloc, options.config.workers as usize);
     let mut records = Vec::new(alloc);
@@ -138,8 +137,8 @@ fn print_work<H: Threads + Wait + Sync, M: EventModel + Sync, W: Watch + Sync, O
 where
     M::State: Send,
     M::Kept: Send,
-    ensures ok { OnOk result (Appends (O.contents out.old) (O.contents out.new) (run_text options.now.text (M.handlers model.now) options.now.config)) }
-    ensures err { IfErr result (StopsWork options.now.config.workers (text_below options.now.text (M.handlers model.now) options.now.config) (run_text options.now.text (M.handlers model.now) options.now.config) (O.contents out.old) (O.contents out.new)) }
+    ensures ok { OnOk result (WritesWhole (M.handlers model.now) options.now (O.contents out.old) (O.contents out.new)) }
+    ensures err { IfErr result (StopsInThreads (M.handlers model.now) options.now (O.contents out.old) (O.contents out.new)) }
 {
     let config = options.config;
     if config.workers == 1 {
@@ -180,8 +179,8 @@ pub fn simulate<H: Threads + Wait + Sync, M: EventModel + Sync, W: Watch + Sync,
 where
     M::State: Send,
     M::Kept: Send,
-    ensures ok { OnOk result (Appends (O.contents out.old) (O.contents out.new) (run_text options.now.text (M.handlers model.now) options.now.config)) }
-    ensures err { IfErr result (StopsBy options.now.synch options.now.config.workers (PassesInRun (M.handlers model.now) options.now.config) (text_below options.now.text (M.handlers model.now) options.now.config) (run_text options.now.text (M.handlers model.now) options.now.config) (O.contents out.old) (O.contents out.new)) }
+    ensures ok { OnOk result (WritesWhole (M.handlers model.now) options.now (O.contents out.old) (O.contents out.new)) }
+    ensures err { IfErr result (StopsAsSet (M.handlers model.now) options.now (O.contents out.old) (O.contents out.new)) }
 {
     match options.synch {
         Synch::Sequential => print_run(alloc, model, options, watch, out),

@@ -11,6 +11,8 @@ use Rattle.vt_steps.specs.declared.step.Reply.{Reply}
 use Rattle.vt_steps.specs.Next.{next}
 use Rattle.vt_steps.specs.World.{World, opening_world}
 use Rattle.vt_kernel.specs.Refusals.{IsSpent, PassesLimit}
+use Rattle.vt_world.specs.Answers.{PassesAtStart}
+use Rattle.vt_options.specs.declared.choices.ReplaySettings.{ReplaySettings}
 use Rattle.vt_text.specs.declared.version.Version.{Version}
 use Rattle.vt_text.specs.Writing.{AppendsBeginning}
 use Rattle.vt_step_text.specs.declared.limits.TheConstants.{MAX_INPUT}
@@ -148,3 +150,15 @@ EndsReplayBy config IsRight AreRight OpensLate remaining old new (BadOption name
 EndsReplayBy config IsRight AreRight OpensLate remaining old new (BadStep line) = StopsAtBadLineBy config remaining line old new
 EndsReplayBy config IsRight AreRight OpensLate remaining old new Output = BeginsReplayBy config IsRight remaining old new
 EndsReplayBy config IsRight AreRight OpensLate remaining old new _ = ⊥
+
+-- ---- a replay of a model, as its settings say
+
+module _ {S P K : Type 0} (handlers : Handlers S P K) (s : ReplaySettings) where
+  -- the output of the steps that the reader gave was written
+  abbrev pub ReplaysAsSet : Option (List ℕ) → Option (List ℕ) → Option (List ℕ) → Type 0
+  ReplaysAsSet = ReplaysBy s.config (λ steps. IsReplayOf s.text handlers s.config s.serial steps)
+
+  -- what a replay that was refused read and wrote
+  abbrev pub EndsReplayAsSet : Option (List ℕ) → Option (List ℕ) → Option (List ℕ) → Fault → Type 0
+  EndsReplayAsSet =
+      EndsReplayBy s.config (λ steps. IsReplayOf s.text handlers s.config s.serial steps) (λ steps. AreRepliesOf handlers s.config s.serial steps) (PassesAtStart (simulation_of handlers s.config) s.serial)

@@ -13,6 +13,7 @@ use Rattle.vt_seq.specs.Limits.{PassesNumberLimit}
 use Rattle.vt_text.specs.declared.version.Version.{Version}
 use Rattle.vt_text.specs.Records.{records_text}
 use Rattle.vt_text.specs.Writing.{AppendsBeginning}
+use Rattle.vt_options.specs.declared.choices.RunSettings.{RunSettings}
 use Rattle.vt_options.specs.declared.choices.Synch.{Synch}
 use Rattle.vt_options.specs.declared.choices.Synch.TheVariants.{Sequential, Optimistic}
 
@@ -69,3 +70,22 @@ StopsWork workers below whole old new _ = ⊥
 abbrev pub StopsBy : Synch → ℕ → Type 0 → (Time → List ℕ) → List ℕ → Option (List ℕ) → Option (List ℕ) → Fault → Type 0
 StopsBy Sequential workers Passes below whole old new fault = StopsRun Passes old new whole fault
 StopsBy Optimistic workers Passes below whole old new fault = StopsWork workers below whole old new fault
+
+-- ---- a run of a model, as its settings say
+
+module _ {S P K : Type 0} (handlers : Handlers S P K) (s : RunSettings) where
+  -- the text of the whole run was written
+  abbrev pub WritesWhole : Option (List ℕ) → Option (List ℕ) → Type 0
+  WritesWhole old new = Appends old new (run_text s.text handlers s.config)
+
+  -- what a run in one thread that was refused wrote
+  abbrev pub StopsInOne : Option (List ℕ) → Option (List ℕ) → Fault → Type 0
+  StopsInOne old new = StopsRun (PassesInRun handlers s.config) old new (run_text s.text handlers s.config)
+
+  -- what a run in threads that was refused wrote
+  abbrev pub StopsInThreads : Option (List ℕ) → Option (List ℕ) → Fault → Type 0
+  StopsInThreads = StopsWork s.config.workers (text_below s.text handlers s.config) (run_text s.text handlers s.config)
+
+  -- what a run of the kind that the settings name wrote, where it was refused
+  abbrev pub StopsAsSet : Option (List ℕ) → Option (List ℕ) → Fault → Type 0
+  StopsAsSet = StopsBy s.synch s.config.workers (PassesInRun handlers s.config) (text_below s.text handlers s.config) (run_text s.text handlers s.config)

@@ -7,7 +7,7 @@ ghost use Rattle.vt_key.specs.declared.fault.Fault.{Fault};
 ghost use Rattle.vt_model.specs.Simulation.{simulation_of};
 ghost use Rattle.vt_text.specs.Writing.{AppendsBeginning};
 ghost use Rattle.vt_world.specs.Answers.{PassesAtStart};
-ghost use Rattle.vt_tasks.specs.Replays.{GivesSteps, IsInputRefusal, IsReplayOf, AreRepliesOf, Writes, StopsReplay, ReplaysBy, EndsReplayBy};
+ghost use Rattle.vt_tasks.specs.Replays.{GivesSteps, IsInputRefusal, IsReplayOf, AreRepliesOf, Writes, StopsReplay, ReplaysAsSet, EndsReplayAsSet};
 ghost use Rattle.vt_tasks.specs.Replying.{PutsReplies, StopsReplies, shown_of};
 
 use std::alloc::Global;
@@ -121,8 +121,8 @@ pub fn replay<M: EventModel, R: Read, O: Write>(
     out: &mut O,
 ) -> Result<(), Fault>
     requires counted { options.now.serial ≤ MAX_COUNT }
-    ensures ok { OnOk result (ReplaysBy options.now.config (λ steps. IsReplayOf options.now.text (M.handlers model.now) options.now.config options.now.serial steps) (R.remaining reader.old) (O.contents out.old) (O.contents out.new)) }
-    ensures err { IfErr result (EndsReplayBy options.now.config (λ steps. IsReplayOf options.now.text (M.handlers model.now) options.now.config options.now.serial steps) (λ steps. AreRepliesOf (M.handlers model.now) options.now.config options.now.serial steps) (PassesAtStart (simulation_of (M.handlers model.now) options.now.config) options.now.serial) (R.remaining reader.old) (O.contents out.old) (O.contents out.new)) }
+    ensures ok { OnOk result (ReplaysAsSet (M.handlers model.now) options.now (R.remaining reader.old) (O.contents out.old) (O.contents out.new)) }
+    ensures err { IfErr result (EndsReplayAsSet (M.handlers model.now) options.now (R.remaining reader.old) (O.contents out.old) (O.contents out.new)) }
 {
     let steps = read_replay(alloc, reader, options.config)?;
     print_replay(alloc, model, options, steps.as_slice(), out)

@@ -1,10 +1,9 @@
 //! A run in one thread, and its text.
 
 ghost use Rattle.std.specs.Prelude.{◌≡◌, OnOk, IfErr};
-ghost use Rattle.std.specs.Io.KnownBytes.{Appends};
 ghost use Rattle.vt_model.specs.Simulation.{simulation_of};
 ghost use Rattle.vt_seq.specs.Standing.{IsAt};
-ghost use Rattle.vt_tasks.specs.Runs.{run_text, PassesInRun, StopsRun};
+ghost use Rattle.vt_tasks.specs.Runs.{WritesWhole, StopsInOne};
 
 use crate::counting::EventCount;
 use std::alloc::Global;
@@ -33,8 +32,8 @@ pub fn print_run<M: EventModel, W: Watch, O: Write>(
     watch: &W,
     out: &mut O,
 ) -> Result<(), Fault>
-    ensures ok { OnOk result (Appends (O.contents out.old) (O.contents out.new) (run_text options.now.text (M.handlers model.now) options.now.config)) }
-    ensures err { IfErr result (StopsRun (PassesInRun (M.handlers model.now) options.now.config) (O.contents out.old) (O.contents out.new) (run_text options.now.text (M.handlers model.now) options.now.config)) }
+    ensures ok { OnOk result (WritesWhole (M.handlers model.now) options.now (O.contents out.old) (O.contents out.new)) }
+    ensures err { IfErr result (StopsInOne (M.handlers model.now) options.now (O.contents out.old) (O.contents out.new)) }
 {
     let mut execution = Execution::new(alloc, model, options.config)?;
     print_events(alloc, &mut execution, options, watch, out)
@@ -50,8 +49,8 @@ fn print_events<M: EventModel, W: Watch, O: Write>(
 ) -> Result<(), Fault>
     requires config { execution.old.config ≡ options.now.config }
     requires opening { IsAt (simulation_of (M.handlers execution.old.model) options.now.config) 0 execution.old }
-    ensures ok { OnOk result (Appends (O.contents out.old) (O.contents out.new) (run_text options.now.text (M.handlers execution.old.model) options.now.config)) }
-    ensures err { IfErr result (StopsRun (PassesInRun (M.handlers execution.old.model) options.now.config) (O.contents out.old) (O.contents out.new) (run_text options.now.text (M.handlers execution.old.model) options.now.config)) }
+    ensures ok { OnOk result (WritesWhole (M.handlers execution.old.model) options.now (O.contents out.old) (O.contents out.new)) }
+    ensures err { IfErr result (StopsInOne (M.handlers execution.old.model) options.now (O.contents out.old) (O.contents out.new)) }
 {
     let mut records = Vec::new(alloc);
     let mut text = TextBuffer::new();

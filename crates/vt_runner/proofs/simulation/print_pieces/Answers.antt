@@ -5,7 +5,7 @@ use Rattle.vt_key.proofs.ResultLemmas.{if_err}
 use Rattle.vt_model.specs.declared.settings.Config.{Config}
 use Rattle.vt_model.specs.Settings.{end_of}
 use Rattle.vt_station.specs.Crew.{IsHandOutRefusal, IsTold}
-use Rattle.vt_tasks.specs.Runs.{text_below, run_text, StopsWork, WritesBelow}
+use Rattle.vt_tasks.specs.Runs.{text_below, run_text, WritesBelow, StopsInThreads}
 use Rattle.vt_tasks.proofs.PrintLemmas.{one_run}
 use Rattle.vt_runner.specs.Pieces.{AreWritten}
 use Rattle.vt_runner.proofs.RunLemmas.{written-below, stops-lasting, stops-unread, all-written, piece-written, piece-stops, output_begun}
@@ -25,7 +25,7 @@ returns-in_err-print-clause-err g c = λ start written.
     let l = c.loop.invariant in
     let same = one_run g.M.Model.handlers (c.work-standing.ensures.same.0 ∙ l.model) (c.work-standing.ensures.same.1 ∙ l.config ∙ c.requires.config) in
     let fault = c.in_err-print.field-0.0 in
-    if_err (StopsWork o.config.workers (text_below o.text H o.config) (run_text o.text H o.config) _ _) c.from_residual.result fault c.from_residual.ensures.1
+    if_err (StopsInThreads H o _ _) c.from_residual.result fault c.from_residual.ensures.1
     (output_begun o.config.workers (text_below o.text H o.config) (run_text o.text H o.config) _ _ fault c.in_err-print.ensures.fault
     (piece-stops c.requires.lawful (l.written start written) same c.in_default.ensures.piece.1 c.as_slice.ensures.value c.in_err-print.ensures.err))
 

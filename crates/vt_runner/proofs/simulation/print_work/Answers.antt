@@ -10,7 +10,7 @@ use Rattle.vt_model.specs.declared.settings.Config.{Config}
 use Rattle.vt_model.specs.Histories.{IsLawful}
 use Rattle.vt_model.specs.Simulation.{simulation_of}
 use Rattle.vt_model.proofs.LawLemmas.{lawful_of}
-use Rattle.vt_tasks.specs.Runs.{text_below, run_text, StopsWork}
+use Rattle.vt_tasks.specs.Runs.{text_below, run_text, StopsInThreads, WritesWhole}
 use Rattle.vt_station.proofs.CrewLemmas.{none-at-first}
 use Rattle.vt_runner.proofs.RunLemmas.{none-written, part_begun, stops-lasting, output_begun}
 use Rattle.vt_runner.proofs.simulation.print_work.Given.{Over}
@@ -32,15 +32,15 @@ returns-in_err-print_records-clause-err g c =
     let o = c.args.options.now in
     let H = g.M.Model.handlers c.args.model.now in
     let fault = c.in_err-print_records.field-0.0 in
-    if_err (StopsWork o.config.workers (text_below o.text H o.config) (run_text o.text H o.config) _ _) c.from_residual.result fault c.from_residual.ensures.1
+    if_err (StopsInThreads H o _ _) c.from_residual.result fault c.from_residual.ensures.1
     (output_begun o.config.workers (text_below o.text H o.config) (run_text o.text H o.config) _ _ fault c.in_err-print_records.ensures.fault
     (part_begun o.text H o.config (lawful g c.args.model.now o.config) [] (opening_time, none-at-first (simulation_of H o.config)) _ _ c.in_err-print_records.ensures.err))
 
 -- memory was refused before the first piece, when the first line was written
 refused-early : (g : Over) (model : g.row.M.Denot) (o : RunSettings) (old now : Option (List ℕ)) → Appends old now (records_text o.text []) → (result : Result (Unit {0}) Fault) (fault : Fault) → fault ≡ Memory → IsErrAnd result (λ e. e ≡ fault)
-    → IfErr result (StopsWork o.config.workers (text_below o.text (g.M.Model.handlers model) o.config) (run_text o.text (g.M.Model.handlers model) o.config) old now)
+    → IfErr result (StopsInThreads (g.M.Model.handlers model) o old now)
 refused-early g model o old now written result fault is told =
-    if_err (StopsWork o.config.workers (text_below o.text (g.M.Model.handlers model) o.config) (run_text o.text (g.M.Model.handlers model) o.config) old now) result fault told
+    if_err (StopsInThreads (g.M.Model.handlers model) o old now) result fault told
     (stops-lasting {handlers = g.M.Model.handlers model} {config = o.config} (lawful g model o.config) (none-written old now written) fault (inl (inl is)))
 
 pub returns-in_err-station-clause-err : goal.returns-in_err-station-clause-err
@@ -59,12 +59,12 @@ pub returns-clause-ok : goal.returns-clause-ok
 returns-clause-ok g c =
     let o = c.args.options.now in
     let old = g.O.Write.contents c.args.out.now in
-    subst (λ m. OnOk c.print_pieces.result (Appends old (g.O.Write.contents c.print_pieces.new.out) (run_text o.text (g.M.Model.handlers m) o.config))) c.in_ok-crew.ensures.made.0
+    subst (λ m. OnOk c.print_pieces.result (WritesWhole (g.M.Model.handlers m) o old (g.O.Write.contents c.print_pieces.new.out))) c.in_ok-crew.ensures.made.0
     (c.print_pieces.ensures.ok old (none-written _ _ c.in_ok-print_records.ensures.ok))
 
 pub returns-clause-err : goal.returns-clause-err
 returns-clause-err g c =
     let o = c.args.options.now in
     let old = g.O.Write.contents c.args.out.now in
-    subst (λ m. IfErr c.print_pieces.result (StopsWork o.config.workers (text_below o.text (g.M.Model.handlers m) o.config) (run_text o.text (g.M.Model.handlers m) o.config) old (g.O.Write.contents c.print_pieces.new.out))) c.in_ok-crew.ensures.made.0
+    subst (λ m. IfErr c.print_pieces.result (StopsInThreads (g.M.Model.handlers m) o old (g.O.Write.contents c.print_pieces.new.out))) c.in_ok-crew.ensures.made.0
     (c.print_pieces.ensures.err old (none-written _ _ c.in_ok-print_records.ensures.ok))
