@@ -1,17 +1,10 @@
 //! How letters reach a process of the worker: out of its own outbox, or out of the mail that has arrived.
 
-ghost use Rattle.std.specs.Prelude.{◌≡◌, ◌%◌, ◌<◌, ◌≤◌, ◌⊎◌, IfOk, IfErr, None, true, false};
-ghost use Rattle.std.specs.Option.{is_none};
-ghost use Rattle.vt_key.specs.Times.{TimeBefore};
+ghost use Rattle.std.specs.Prelude.{◌≡◌, ◌<◌, ◌⊎◌, IfErr, true, false};
 ghost use Rattle.vt_key.specs.declared.fault.Fault.TheVariants.{NotLawful, Memory};
 ghost use Rattle.vt_model.specs.Handler.{Handlers};
-ghost use Rattle.vt_model.specs.Simulation.{simulation_of};
-ghost use Rattle.vt_steps.specs.World.{LogicalProcess, Part};
-ghost use Rattle.vt_steps.specs.ProcessSteps.{accept_process};
 ghost use Rattle.vt_steps.specs.declared.step.Step.TheVariants as step;
-ghost use Rattle.vt_lp.specs.Held.{StandsFor as ProcessStandsFor};
-ghost use Rattle.vt_lp.specs.Guards.{holds_letter, IsDone as ProcessIsDone};
-ghost use Rattle.vt_kernel.specs.Held.{StandsFor};
+ghost use Rattle.vt_lp.specs.Guards.{holds_letter};
 ghost use Rattle.vt_kernel.specs.Steps.{DoesStep, RefusesStep, RefusesAccept};
 
 use crate::kernel::Kernel;

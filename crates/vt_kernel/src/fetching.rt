@@ -1,11 +1,9 @@
 //! Mail that arrives.
 
-ghost use Rattle.std.specs.Prelude.{◌≡◌, ◌+◌, ◌<◌, ◌≤◌, ◌⊎◌, [], true, false, IfOk, IfErr};
+ghost use Rattle.std.specs.Prelude.{◌≡◌, ◌<◌, [], true, IfOk, IfErr};
 ghost use Rattle.vt_key.specs.declared.fault.Fault.TheVariants.{NotLawful, Exhausted};
-ghost use Rattle.vt_key.specs.declared.letter.Colour.TheVariants.{White, Red};
-ghost use Rattle.vt_key.specs.declared.limits.TheConstants.{MAX_COUNT};
 ghost use Rattle.vt_model.specs.Handler.{Handlers};
-ghost use Rattle.vt_steps.specs.Letters.{raised, count_colour, is_empty};
+ghost use Rattle.vt_steps.specs.Letters.{is_empty};
 ghost use Rattle.vt_steps.specs.World.{Part};
 ghost use Rattle.vt_steps.specs.PartSteps.{part_after_fetch};
 ghost use Rattle.vt_kernel.specs.Held.{StandsFor, AllOwnMail, AreCounted};

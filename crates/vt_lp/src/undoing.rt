@@ -5,7 +5,6 @@ ghost use Rattle.std.specs.List.{last_or, list_any};
 ghost use Rattle.vt_key.specs.Order.{rank_before};
 ghost use Rattle.vt_key.specs.declared.fault.Fault.TheVariants.{NotLawful};
 ghost use Rattle.vt_past.specs.Kept.{TookEvent};
-ghost use Rattle.vt_pending.specs.Letters.{IsRising};
 ghost use Rattle.vt_steps.specs.ProcessSteps.{undo_process};
 ghost use Rattle.vt_lp.specs.Held.{AllWithinRun};
 ghost use Rattle.vt_lp.specs.Steps.{DoesAtProcess, RefusesAtProcess};

@@ -1,8 +1,7 @@
 //! Mail between workers: post and fetch.
 
-ghost use Rattle.std.specs.Prelude.{◌≡◌, true, false, Err, IfErr, MatchResult};
+ghost use Rattle.std.specs.Prelude.{◌≡◌, false, Err, IfErr, MatchResult};
 ghost use Rattle.vt_key.specs.declared.fault.Fault.TheVariants.{NotLawful};
-ghost use Rattle.vt_model.specs.Simulation.{simulation_of};
 ghost use Rattle.vt_steps.specs.declared.step.Step.TheVariants as step;
 ghost use Rattle.vt_steps.specs.declared.step.Reply.TheVariants as reply;
 ghost use Rattle.vt_steps.specs.World.{Part};

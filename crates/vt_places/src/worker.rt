@@ -1,6 +1,6 @@
 //! A worker that is driven by hand: the station's calls and the kernel's local steps together.
 
-ghost use Rattle.std.specs.Prelude.{◌≡◌, ◌<◌, [], false, None, Err, IfOk, IfErr, MatchResult};
+ghost use Rattle.std.specs.Prelude.{◌≡◌, ◌<◌, [], false, Err, IfOk, IfErr, MatchResult};
 ghost use Rattle.vt_key.specs.Times.{Time, TimeAtMost, TimeBefore};
 ghost use Rattle.vt_key.specs.declared.fault.Fault.TheVariants.{Memory, NotLawful};
 ghost use Rattle.vt_model.specs.Simulation.{simulation_of};

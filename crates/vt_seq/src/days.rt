@@ -1,6 +1,6 @@
 //! Events by days.
 
-ghost use Rattle.std.specs.Prelude.{◌≡◌, ◌+◌, ◌-◌, ◌<◌, ◌≤◌, ◌^◌, [], ◌∷◌, ◌++◌, if◌then◌else◌, is_ok, length, slice_get, vec_len, IfOk, IfErr, IfSome, IfNone, IsTrue, Some, Err};
+ghost use Rattle.std.specs.Prelude.{◌≡◌, ◌+◌, ◌-◌, ◌<◌, ◌≤◌, ◌^◌, [], ◌∷◌, ◌++◌, if◌then◌else◌, is_ok, vec_len, IfOk, IfErr, IfSome, IfNone, IsTrue, Some, Err};
 ghost use Rattle.vt_key.specs.declared.fault.Fault.TheVariants.{Memory, NotLawful};
 ghost use Rattle.vt_seq.specs.declared.days.TheConstants.{DAYS};
 ghost use Rattle.vt_seq.specs.Days.{entries_of_days, IsPut, IsDayTaken};

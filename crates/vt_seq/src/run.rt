@@ -1,6 +1,6 @@
 //! The sequential run of a model, with its records.
 
-ghost use Rattle.std.specs.Prelude.{◌≡◌, ℕ, suc, ◌+◌, ◌<◌, ◌≤◌, ◌↔◌, ◌⊎◌, [], length, IfOk, IfErr, IsTrue, IfSome, IfNone, Err, filter, false, true};
+ghost use Rattle.std.specs.Prelude.{◌≡◌, ℕ, suc, ◌+◌, ◌<◌, ◌≤◌, ◌↔◌, ◌⊎◌, [], length, IfOk, IfErr, IsTrue, IfSome, IfNone, Err, filter, false};
 ghost use Rattle.vt_key.specs.Times.{time_before};
 ghost use Rattle.vt_model.specs.Simulation.{simulation_of, after};
 ghost use Rattle.vt_model.specs.Sequential.{after_steps, events_of, rows_after, rows_before, records_of, seq_records, seq_finals};

@@ -1,6 +1,6 @@
 //! Reading a step text.
 
-ghost use Rattle.std.specs.Prelude.{◌≡◌, ℕ, IfOk, IfErr, Ok};
+ghost use Rattle.std.specs.Prelude.{◌≡◌, IfOk, IfErr, Ok};
 ghost use Rattle.vt_step_text.specs.StepText.{is_passed_over, steps_of, IsStepTextRefusal};
 
 use crate::lines::cut_once;
