@@ -1,6 +1,83 @@
 //! How workers wait: a bell for each, and what they count together.
 //!
 //! The bells stand apart from the station, since no call of a place waits.
+//!
+//! A worker looks at its bell before it sleeps, and doesn't yield its processor meanwhile: beside other programs a worker
+//! that yields waits for a whole time slice, and the round waits with it.
+//!
+//! # Why no run sleeps for ever
+//!
+//! Each worker has a bell. It says how often it was **rung**, and one more than the rings at which its worker last
+//! went to **sleep**. Beside the bells stand how often mail was put into each inbox, how many cuts were done, and
+//! how often the round **moved on**.
+//!
+//! **When a worker waits.** It reads its rings before a turn tries anything. After the turn it waits for more of
+//! them only if all of this holds:
+//!
+//! - In the turn no cut, report or commit was done.
+//! - It executed nothing and its outbox is empty, or it is held.
+//! - No cell that it tried was claimed by another.
+//! - All mail that had arrived is accepted.
+//! - No worker has left before the end of the run.
+//! - If its floor is END, its close was not lawful.
+//!
+//! **When a worker rings**, each time after the cell is given back:
+//!
+//! 1. A worker that posts counts the mail, and rings for the receiver.
+//! 2. Each cut is counted. Whoever makes the count a multiple of the number of workers counts that the round has
+//!    moved on, and rings for all others. In a round each worker cuts once, and counts it before it can report. So
+//!    no cut of the next round is counted before all of this one are. The multiple is reached when all cuts of the
+//!    round are done.
+//! 3. A worker whose report closes a pass, with or without an announced time, counts that the round has moved on,
+//!    and rings for all others.
+//! 4. A worker that leaves before the end of the run says so, and then rings for all others.
+//! 5. A worker that has closed the book rings for all others.
+//!
+//! **No ring is lost.** Let a worker have read `e` rings before its turn. What becomes visible after one of its
+//! tries is followed by a ring, which comes after `e` was read. So its rings are not `e` any more, or will not be.
+//!
+//! To sleep the worker writes `e + 1` as asleep, and reads its rings again. Only while they are `e` does it ask the
+//! system to sleep, which compares them once more. One ringer moves the rings from `e`, and reads asleep after
+//! that. If it reads `e + 1`, it wakes whoever sleeps there. If it reads anything else, the worker wrote `e + 1`
+//! later, and its next look finds that the rings have moved. All these accesses have one order that all threads
+//! see. Other ringers need not wake anybody: they don't move the rings from `e`.
+//!
+//! A word `asleep` that ringers take away would not do: a late ringer would take away the word of a later sleep.
+//! The system compares the last 32 bits alone. So the argument leaves out that a multiple of 2^32 rings comes
+//! between a worker's last look and its sleep.
+//!
+//! **Not all sleep.** Suppose that all workers that have not left wait, and that no ring is under way. Then three
+//! things hold:
+//!
+//! - No worker has left before the end of the run. The others would have been rung for, and a worker that has read
+//!   its rings after that finds it said, and doesn't wait.
+//! - All have begun, since none makes a turn before.
+//! - The book is open. It closes only when all have handed in END, and who closed it has rung. So each other worker
+//!   would have made a turn since, in which its close found the book closed.
+//!
+//! Look at the round that was opened last, if there is one.
+//!
+//! - There is no round, or it is closed, or some worker hasn't cut in it. Then a cut of some worker is lawful.
+//!   Before its last report the worker had read how often the round had moved on; it asks again once that has
+//!   changed. Since then the round before was closed by a report that is counted as a move. It rings for the
+//!   worker, or was the worker's own, after which it goes on. So its next turn tried a cut. That was done or met a
+//!   claimed board, and after neither does a worker wait.
+//! - All have cut, and some worker hasn't reported in the open pass. The pass was opened by the last cut, or by the
+//!   report that closed the pass before. Both are counted as moves and ring for the worker, so as above its next
+//!   turn tried a report.
+//! - All have reported in the open pass. There is no such pass: the last report closes it.
+//!
+//! So as long as nobody leaves, some worker is awake, or a ring is under way that wakes one. Every turn counts, so
+//! a run ends at the latest when a worker's turns are spent; then all others make 8 more turns at most.
+//!
+//! **The end of the run.** By the same argument rounds go on, and each worker cuts after END was announced. Its
+//! floor is END then, and it hands in. That may be in a later turn, since a book that is claimed is no reason to
+//! wait. The last one to hand in finds all floors at END, so its close is lawful. It closes the book, or finds it
+//! claimed and tries again. Then it rings for all, and each finds the book closed.
+//!
+//! **Busy cells.** A worker that found a cell claimed makes the next turn after some pauses, and gives its
+//! processor away after 32 of these in a row. Nobody sleeps while a cell is claimed, for a claim ends without
+//! waiting for anybody.
 
 ghost use Rattle.std.specs.Prelude.{◌≡◌, IfErr};
 ghost use Rattle.vt_key.specs.declared.fault.Fault.TheVariants.{Memory};

@@ -1,4 +1,15 @@
 //! How far a worker executes ahead of the others, and for how many turns once another one has left.
+//!
+//! A turn executes at most as many events as the worker's bound says. Each cut of the worker changes it: it is halved where
+//! too much was taken back, and rises by one where little was. Letters are counted, since the length of the outbox tells
+//! their number.
+//!
+//! A worker that has received mail from others is held if its bound is 1 or its patience is over: it executes one event, and
+//! then waits for mail or for the round. In a run that isn't calm a cut or a report alone tells nothing of progress: the
+//! rounds go on where one worker is behind, and the others would execute far ahead in vain. In a calm one it has to count,
+//! since one tick of a large model may have more events than the patience allows. A worker alone is never held.
+//!
+//! The most events of a turn are a part of what a turn is. The other numbers may be tuned.
 
 ghost use Rattle.std.specs.Prelude.{◌≡◌, ◌<◌, ◌≤◌, suc, IsTrue, IsFalse};
 
