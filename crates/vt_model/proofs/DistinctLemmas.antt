@@ -11,17 +11,13 @@ use Rattle.vt_key.proofs.ListLemmas.{every-all, every-among, filter-among, risin
 use Rattle.vt_model.specs.declared.sending.Sent.{Sent}
 use Rattle.vt_model.specs.Simulation.{Simulation, after}
 use Rattle.vt_model.specs.Sequential.{RunState, events_of, fired_after, with_event, after_steps}
-use Rattle.vt_model.specs.Histories.{AreNumbered, sends_of, IsLawful}
-use Rattle.vt_model.proofs.RunLemmas.{each_step, filter-yes, filter-no, numbered-among, numbered-all, known_sent, lists_of, least-found, IsReached, reached, among-below, flat-next}
+use Rattle.vt_model.specs.Histories.{AreDistinct, AreNumbered, sends_of, IsLawful}
+use Rattle.vt_model.proofs.RunLemmas.{each_step, filter-all, filter-yes, filter-no, numbered-among, numbered-all, known_sent, lists_of, least-found, IsReached, reached, among-below, flat-next}
 
 differs : (a b : Key) → (a ≡ b → ⊥) → key_same a b ≡ false
 differs a b never = elim (cases_Bool (key_same a b)) [ inl y ↦ absurd (never (key_same-true a b y)) | inr y ↦ y ]
 
 module _ {P : Type 0} where
-  -- no two of these events have one key
-  abbrev pub AreDistinct : List (Sent P) → Type 0
-  AreDistinct = IsRisingBy (λ a b. a.key ≡ b.key → ⊥)
-
   -- sends with rising numbers are distinct
   distinct-numbered : (p lo hi : ℕ) (es : List (Sent P)) → AreNumbered p lo hi es → AreDistinct es
   distinct-numbered p lo hi [] n = tt
@@ -33,10 +29,6 @@ module _ {P : Type 0} where
         omega arith),
     distinct-numbered p (suc e.key.number) hi es n.2,
   )
-
-  filter-all : (test : Sent P → Bool) (xs : List (Sent P)) → ((d : Sent P) → Among d xs → test d ≡ true) → filter test xs ≡ xs
-  filter-all test [] all = refl
-  filter-all test (x ∷ xs) all = filter-yes test x xs (all x (inl refl)) ∙ ap (λ (l : List (Sent P)). x ∷ l) (filter-all test xs (λ d m. all d (inr m)))
 
   -- where no two have one key, the sum without one of them is less by just what it adds
   pub sum_by-without : (f : Sent P → ℕ) (xs : List (Sent P)) (e : Sent P) → AreDistinct xs → Among e xs → sum_by f (filter (λ d. not (key_same d.key e.key)) xs) + f e ≡ sum_by f xs

@@ -3,12 +3,13 @@ use Rattle.std.proofs.Common.{◌≡◌, ℕ, zero, suc, ◌+◌, ◌*◌, ◌-�
 use Rattle.std.specs.List.{list_all, sum_by}
 use Rattle.std.specs.Option.{option_map_or}
 use Rattle.std.proofs.lemmas.Bool.{eqb-true, eq-eqb, cases_Bool}
+use Rattle.std.proofs.lemmas.Bool.Decides.{nat_tests}
 use Rattle.std.proofs.lemmas.List.Sums.{sum_by-cons, sum_by-append}
 use Rattle.std.proofs.Math.Nat.{pow-suc, one-le-pow, pow-le-pow_right, mul-le-mul_right}
 use Rattle.vt_key.specs.Order.{KeyBefore, key_before, key_same}
 use Rattle.vt_key.proofs.OrderLemmas.{key-irreflexive, key-transitive, key_before-true, before-key_before, same-key_same}
 use Rattle.vt_key.proofs.ListLemmas.{among-filter, filter-among, rising-filter}
-use Rattle.vt_key.specs.Times.{time_left}
+use Rattle.vt_key.specs.Times.{time_before, time_left}
 use Rattle.vt_key.specs.Lists.{Among, IsRisingBy}
 use Rattle.vt_model.specs.declared.limits.TheConstants.{MAX_SENDS}
 use Rattle.vt_model.specs.declared.sending.Sent.{Sent}
@@ -18,7 +19,7 @@ use Rattle.vt_model.specs.Histories.{IsRising, IsHistory, IsLawful}
 use Rattle.vt_model.specs.Rows.{RowBefore}
 use Rattle.vt_model.proofs.HistoryLemmas.{one_history}
 use Rattle.vt_model.proofs.RowLemmas.{rows_rise}
-use Rattle.vt_model.proofs.RunLemmas.{filter-yes, filter-no, find-none, least-found, known_sent, lists_of, IsReached, reached, fresh-later}
+use Rattle.vt_model.proofs.RunLemmas.{filter-all, filter-yes, filter-no, find-none, least-found, known_sent, lists_of, IsReached, reached, fresh-later}
 
 module _ {P : Type 0} where
   -- where there is an event, some event has none before it
@@ -172,6 +173,16 @@ module _ {S P : Type 0} (sim : Simulation S P) (lawful : IsLawful sim) where
           | inr done ↦ among-filter (λ d. nat_eq d.dest e.dest) e (after_steps sim n).executed done (eq-eqb e.dest e.dest refl)
         ];
       }
+
+  -- each event of the whole run is before the end of the run
+  pub events-end : (p : ℕ) → seq_events sim p sim.end ≡ events_of p (whole_run sim)
+  unfolding whole_run
+  events-end p =
+      let executed : List (Sent P) = (after_steps sim (weight sim (opening sim).pending)).executed in
+      filter-all (λ e. time_before e.key.time sim.end) (events_of p executed) (λ e m.
+      (let made = (reached sim lawful (weight sim (opening sim).pending)).made e (inr (filter-among (λ d. nat_eq d.dest p) e executed m).0) in
+      let soon = (known_sent sim lawful (lists_of sim lawful executed) e made).1 in
+      grind (arith, nat_tests)))
 
   -- each history is that of the sequential run
   pub history_is_sequential : (below : ℕ) (lists : ℕ → List (Sent P)) → IsHistory sim below lists

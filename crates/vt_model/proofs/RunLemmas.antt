@@ -79,6 +79,11 @@ module _ {P : Type 0} where
   pub filter-no : (test : Sent P → Bool) (x : Sent P) (xs : List (Sent P)) → test x ≡ false → filter test (x ∷ xs) ≡ filter test xs
   filter-no test x xs e = ap (λ (b : Bool). if b then (x ∷ filter test xs) else filter test xs) e
 
+  -- where each one passes, all are kept
+  pub filter-all : (test : Sent P → Bool) (xs : List (Sent P)) → ((d : Sent P) → Among d xs → test d ≡ true) → filter test xs ≡ xs
+  filter-all test [] all = refl
+  filter-all test (x ∷ xs) all = filter-yes test x xs (all x (inl refl)) ∙ ap (λ (l : List (Sent P)). x ∷ l) (filter-all test xs (λ d m. all d (inr m)))
+
   pub find-none : (test : Sent P → Bool) (xs : List (Sent P)) (e : Sent P) → find test xs ≡ None → Among e xs → test e ≡ false
   find-none test [] e h m = absurd m
   find-none test (x ∷ xs) e h m =

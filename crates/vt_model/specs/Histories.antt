@@ -19,6 +19,10 @@ AllAfter k = AllByRecursion (λ e. KeyBefore k e.key)
 abbrev pub IsRising : {P : Type 0} → List (Sent P) → Type 0
 IsRising = IsRisingBy (λ d e. KeyBefore d.key e.key)
 
+-- no two of these events have one key
+abbrev pub AreDistinct : {P : Type 0} → List (Sent P) → Type 0
+AreDistinct = IsRisingBy (λ d e. ¬ (d.key ≡ e.key))
+
 -- sends of one process whose numbers rise strictly, from lo on and below hi
 abbrev pub AreNumbered : {P : Type 0} → ℕ → ℕ → ℕ → List (Sent P) → Type 0
 AreNumbered p lo hi [] = lo ≤ hi

@@ -28,4 +28,4 @@ pub use process::{Process, Undo};
 pub use rows::{Record, Row};
 pub use sending::{Out, Sent};
 pub use settings::Config;
-pub use theorem::{models_are_lawful, one_history, rows_rise, run_ends};
+pub use theorem::{models_are_lawful, one_history, pending_keys_are_distinct, rows_rise, run_ends};

@@ -1,11 +1,12 @@
-//! Theorems on the sequential run of every model: it ends, its rows rise, and it is the only history.
+//! Theorems on the sequential run of every model: it ends, its keys are distinct, its rows rise, and it is the only
+//! history.
 
 ghost use Rattle.std.specs.Prelude.{◌≡◌, ◌<◌, ◌≤◌, ℕ, suc, List, [], length};
 ghost use Rattle.vt_key.specs.Times.{Time};
 ghost use Rattle.vt_key.specs.Lists.{IsRisingBy};
 ghost use Rattle.vt_model.specs.Simulation.{simulation_of};
-ghost use Rattle.vt_model.specs.Sequential.{opening, after_steps, weight, whole_run, rows_after, seq_rows, seq_events, events_before};
-ghost use Rattle.vt_model.specs.Histories.{IsHistory, IsLawful, IsRising};
+ghost use Rattle.vt_model.specs.Sequential.{opening, after_steps, weight, whole_run, rows_after, seq_rows, seq_events, events_before, events_of};
+ghost use Rattle.vt_model.specs.Histories.{AreDistinct, IsHistory, IsLawful, IsRising};
 ghost use Rattle.vt_model.specs.declared.sending.Sent.{Sent};
 ghost use Rattle.vt_model.specs.Rows.{RowBefore};
 
@@ -17,11 +18,17 @@ pub fn models_are_lawful<M: Model>(model: &M, config: Config)
 {}
 
 /// The sequential run ends. Each step lowers the weight of the pending events, so after as many steps as the weight at the
-/// opening no event is pending.
+/// opening no event is pending. All events of the whole run are before its end.
 pub fn run_ends<M: Model>(model: &M, config: Config)
     ensures falls { let sim = simulation_of (M.handlers model.now) config in (n : ℕ) → 0 < length (after_steps sim n).pending → weight sim (after_steps sim (suc n)).pending < weight sim (after_steps sim n).pending }
     ensures ends { let sim = simulation_of (M.handlers model.now) config in (after_steps sim (weight sim (opening sim).pending)).pending ≡ [] }
     ensures stays { let sim = simulation_of (M.handlers model.now) config in (n : ℕ) → (after_steps sim n).pending ≡ [] → (after_steps sim n).executed ≡ whole_run sim }
+    ensures early { let sim = simulation_of (M.handlers model.now) config in (p : ℕ) → seq_events sim p sim.end ≡ events_of p (whole_run sim) }
+{}
+
+/// No two pending events of the sequential run have the same key. So exactly one of them comes before all others.
+pub fn pending_keys_are_distinct<M: Model>(model: &M, config: Config)
+    ensures { (n : ℕ) → AreDistinct (after_steps (simulation_of (M.handlers model.now) config) n).pending }
 {}
 
 /// The keys of the executed events rise strictly, so the rows of a run rise by key and then by index: its records stand in

@@ -11,12 +11,12 @@ use Rattle.vt_model.specs.declared.sending.Sent.{Sent}
 use Rattle.vt_model.specs.declared.settings.Config.{Config}
 use Rattle.vt_model.specs.Simulation.{Triple, words_at, start_of, fire_of, after}
 use Rattle.vt_model.specs.Sequential.{RunState, events_of, fired_after, opening, with_event, after_steps, rows_after, records_of}
-use Rattle.vt_model.specs.Histories.{IsLawful}
+use Rattle.vt_model.specs.Histories.{AreDistinct, IsLawful}
 use Rattle.vt_model.specs.Settings.{end_of}
 use Rattle.vt_model.proofs.LawLemmas.{lawful_of, after_state}
 use Rattle.vt_model.proofs.RunLemmas.{each_step, after-snoc, events_of-same, events_of-other, known_sent, lists_of, least-found, IsReached, reached, flat-next}
 use Rattle.vt_parts.specs.Ring.{item_count}
-use Rattle.vt_model.proofs.DistinctLemmas.{AreDistinct, sum_by-without, distinct_pending}
+use Rattle.vt_model.proofs.DistinctLemmas.{sum_by-without, distinct_pending}
 use Rattle.vt_model.proofs.SumLemmas.{sum-next, sum_one}
 use Rattle.vt_model.proofs.SentLemmas.{sent_or_past}
 use Rattle.vt_network.specs.declared.network.Network.{Network}
