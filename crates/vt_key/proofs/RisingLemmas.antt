@@ -3,12 +3,11 @@ use Rattle.std.proofs.Common.{Bool, true, false, ◌||◌, if◌then◌else◌, 
 use Rattle.std.specs.Prelude.{List, [], ◌∷◌}
 use Rattle.std.specs.List.{list_any}
 use Rattle.vt_key.specs.Order.{RankBefore, rank_before, rank_same}
-use Rattle.vt_key.specs.Queues.{without_first, letter_rank, has_rank, insert_letter}
+use Rattle.vt_key.specs.Queues.{without_first, letter_rank, has_rank, insert_letter, holds_rank, AllAfter, IsRising}
 use Rattle.vt_key.specs.declared.order.Rank.{Rank}
 use Rattle.vt_key.specs.declared.letter.Letter.{Letter}
 use Rattle.vt_key.proofs.ListLemmas.{every-weaker, every-insert_ordered, every-without_first}
 use Rattle.vt_key.proofs.OrderLemmas.{rank-transitive, rank-total, rank_before-true, before-rank_before, same-rank_same}
-use Rattle.vt_pending.specs.Letters.{holds_rank, AllAfter, IsRising}
 
 -- neither of two
 pub first-false : (b c : Bool) → (b || c) ≡ false → b ≡ false

@@ -1,6 +1,8 @@
 -- Lists in some order, letters by their ranks and stamps, and what is put into such a list or taken out of it.
 use Rattle.std.specs.Prelude.{Bool, List, [], ◌∷◌, if◌then◌else◌}
-use Rattle.vt_key.specs.Order.{rank_before, rank_same, stamp_same}
+use Rattle.std.specs.List.{list_any, AllByRecursion}
+use Rattle.vt_key.specs.Order.{RankBefore, rank_before, rank_same, stamp_same}
+use Rattle.vt_key.specs.Lists.{IsRisingBy}
 use Rattle.vt_key.specs.declared.order.Rank.{Rank}
 use Rattle.vt_key.specs.declared.order.Stamp.{Stamp}
 use Rattle.vt_key.specs.declared.letter.Letter.{Letter}
@@ -33,3 +35,15 @@ module _ {P : Type 0} where
   -- the letters, with one more in its place by rank
   abbrev pub insert_letter : Letter P → List (Letter P) → List (Letter P)
   insert_letter = insert_ordered (λ a b. rank_before (letter_rank a) (letter_rank b))
+
+  -- some letter has this rank
+  abbrev pub holds_rank : Rank → List (Letter P) → Bool
+  holds_rank rank = list_any (has_rank rank)
+
+  -- each of the letters has a rank after this one
+  abbrev pub AllAfter : Rank → List (Letter P) → Type 0
+  AllAfter rank = AllByRecursion (λ letter. RankBefore rank (letter_rank letter))
+
+  -- the ranks of the letters rise strictly
+  abbrev pub IsRising : List (Letter P) → Type 0
+  IsRising = IsRisingBy (λ a b. RankBefore (letter_rank a) (letter_rank b))

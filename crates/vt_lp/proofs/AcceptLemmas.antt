@@ -4,10 +4,10 @@ use Rattle.std.specs.Prelude.{All}
 use Rattle.std.specs.List.{list_any}
 use Rattle.std.proofs.lemmas.List.Elements.{All-from_recursion, recursion_from_All, All-nil, All-cons, All-head, All-tail}
 use Rattle.std.proofs.lemmas.Bool.{cases_Bool}
-use Rattle.vt_pending.proofs.Rising.{first-false, second-false}
+use Rattle.vt_key.proofs.RisingLemmas.{first-false, second-false}
 use Rattle.vt_key.specs.Order.{rank_before, rank_same}
 use Rattle.vt_key.specs.Times.{Time, earlier}
-use Rattle.vt_key.specs.Queues.{has_rank, insert_letter, letter_rank}
+use Rattle.vt_key.specs.Queues.{has_rank, insert_letter, letter_rank, holds_rank}
 use Rattle.vt_key.specs.declared.order.Rank.{Rank}
 use Rattle.vt_key.specs.declared.letter.Letter.{Letter}
 use Rattle.vt_key.specs.declared.letter.Sign.{Sign}
@@ -23,7 +23,6 @@ use Rattle.vt_steps.proofs.letters.RankTimes.{not-after-time}
 use Rattle.vt_steps.specs.World.{LogicalProcess, entry_rank}
 use Rattle.vt_steps.specs.StandsFor.{entry_of}
 use Rattle.vt_steps.specs.ProcessSteps.{ProcessEffect, holds, with_letter, accept_process}
-use Rattle.vt_pending.specs.Letters.{holds_rank}
 use Rattle.vt_past.specs.declared.event.PastEvent.{PastEvent}
 use Rattle.vt_lp.specs.Held.{HeldProcess, StandsFor, remembered, IsOwnLetter, IsNotPending, IsProcessInside}
 use Rattle.vt_lp.specs.Guards.{IsDone, holds_letter, is_first, would_lead, ready_rank, lesser_rank, TellsSame}

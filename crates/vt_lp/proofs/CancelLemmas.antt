@@ -2,7 +2,7 @@
 use Rattle.std.proofs.Common.{◌≡◌, ◌||◌, ◌+◌, inl, inr, Bool, true, false, if◌then◌else◌, ℕ, suc, arith, List, [], ◌∷◌, Option, Some, None, length, refl, sym, subst, ◌∙◌, ap}
 use Rattle.std.specs.Prelude.{All, IfNone, find}
 use Rattle.std.proofs.lemmas.List.Elements.{All-from_recursion, recursion_from_All, All-nil, All-cons, All-head, All-tail}
-use Rattle.vt_pending.proofs.Rising.{first-false, second-false}
+use Rattle.vt_key.proofs.RisingLemmas.{first-false, second-false}
 use Rattle.vt_key.specs.declared.order.Rank.{Rank}
 use Rattle.vt_key.specs.declared.order.Stamp.{Stamp}
 use Rattle.vt_key.specs.declared.letter.Letter.{Letter}
@@ -12,12 +12,12 @@ use Rattle.vt_stream.specs.Words.{Stream}
 use Rattle.vt_model.specs.declared.settings.Config.{Config}
 use Rattle.vt_model.specs.Handler.{Handlers}
 use Rattle.vt_model.specs.Settings.{end_of}
-use Rattle.vt_key.specs.Queues.{has_stamp, without_first, has_rank}
+use Rattle.vt_key.specs.Queues.{has_stamp, without_first, has_rank, holds_rank}
 use Rattle.vt_key.specs.Lists.{Among}
 use Rattle.vt_steps.specs.World.{LogicalProcess}
 use Rattle.vt_steps.specs.ProcessSteps.{ProcessEffect, are_opposite, cancel_process, can_annihilate}
 use Rattle.vt_key.proofs.ListLemmas.{every-without_first, find-among, find-passes}
-use Rattle.vt_pending.specs.Letters.{holds_rank, without_stamp}
+use Rattle.vt_pending.specs.Letters.{without_stamp}
 use Rattle.vt_past.specs.declared.event.PastEvent.{PastEvent}
 use Rattle.vt_lp.specs.Held.{HeldProcess, StandsFor, IsOwnLetter, IsNotPending, IsProcessInside}
 use Rattle.vt_lp.specs.Guards.{IsDone}

@@ -2,11 +2,10 @@
 use Rattle.std.proofs.Common.{◌≡◌, ◌||◌, false, List, [], ◌∷◌, refl, subst, ◌∙◌, ap, inl, inr}
 use Rattle.std.proofs.lemmas.Bool.{cases_Bool}
 use Rattle.vt_key.specs.Order.{RankBefore, rank_same}
-use Rattle.vt_key.specs.Queues.{letter_rank}
+use Rattle.vt_key.specs.Queues.{letter_rank, holds_rank, AllAfter}
 use Rattle.vt_key.specs.declared.order.Rank.{Rank}
 use Rattle.vt_key.specs.declared.letter.Letter.{Letter}
 use Rattle.vt_key.proofs.OrderLemmas.{rank-irreflexive, rank_same-true}
-use Rattle.vt_pending.specs.Letters.{holds_rank, AllAfter}
 
 -- a rank that is after another is not the same
 pub after-differs : (a b : Rank) → RankBefore a b → rank_same b a ≡ false

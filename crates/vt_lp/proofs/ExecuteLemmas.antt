@@ -3,10 +3,10 @@ use Rattle.std.proofs.Common.{◌≡◌, ℕ, ◌+◌, ◌<◌, ◌≤◌, inl, 
 use Rattle.std.specs.List.{All, last_or}
 use Rattle.std.proofs.lemmas.List.{map-append}
 use Rattle.std.proofs.lemmas.List.Elements.{All-head, All-tail, All-cons, All-nil, All-append, All-weaker}
-use Rattle.vt_pending.proofs.Rising.{second-false}
+use Rattle.vt_key.proofs.RisingLemmas.{second-false}
 use Rattle.vt_key.specs.Times.{Time, TimeBefore}
 use Rattle.vt_key.specs.Order.{RankBefore}
-use Rattle.vt_key.specs.Queues.{letter_rank, has_rank}
+use Rattle.vt_key.specs.Queues.{letter_rank, has_rank, holds_rank, IsRising}
 use Rattle.vt_key.specs.declared.limits.TheConstants.{MAX_COUNT}
 use Rattle.vt_key.specs.declared.fault.Fault.{Fault}
 use Rattle.vt_key.specs.declared.letter.Event.{Event}
@@ -21,7 +21,6 @@ use Rattle.vt_model.specs.Handler.{Handlers}
 use Rattle.vt_model.specs.declared.limits.TheConstants.{MAX_DRAWS}
 use Rattle.vt_model.specs.Process.{IsProcessStream}
 use Rattle.vt_stream.specs.Words.{Stream}
-use Rattle.vt_pending.specs.Letters.{holds_rank, IsRising}
 use Rattle.vt_model.specs.Simulation.{Simulation, Triple, Fired, simulation_of}
 use Rattle.vt_model.specs.Settings.{end_of}
 use Rattle.vt_steps.specs.Letters.{unstamped, stamped, signed}

@@ -9,7 +9,7 @@ use Rattle.vt_key.specs.declared.letter.Letter.{Letter}
 use Rattle.vt_key.specs.declared.letter.Sign.{Sign}
 use Rattle.vt_steps.specs.Letters.{letter_time, least_time}
 use Rattle.vt_steps.proofs.letters.RankTimes.{rank-time, not-after-time}
-use Rattle.vt_pending.specs.Letters.{IsRising}
+use Rattle.vt_key.specs.Queues.{IsRising}
 use Rattle.vt_lp.specs.Held.{IsOwnLetter}
 use Rattle.vt_lp.specs.Guards.{lesser_rank}
 use Rattle.vt_lp.proofs.RisingLemmas.{least_time-rising, least_time-both}

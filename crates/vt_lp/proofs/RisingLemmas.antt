@@ -9,7 +9,7 @@ use Rattle.vt_key.specs.declared.letter.Letter.{Letter}
 use Rattle.vt_key.proofs.OrderLemmas.{rank-transitive, rank_before-true, before-rank_before}
 use Rattle.vt_steps.specs.Letters.{letter_time, least_time}
 use Rattle.vt_steps.proofs.letters.RankTimes.{rank-order-time}
-use Rattle.vt_pending.specs.Letters.{AllAfter, IsRising}
+use Rattle.vt_key.specs.Queues.{AllAfter, IsRising}
 
 module _ {P : Type 0} where
   -- where all letters are after a rank, none is before what that rank is not before

@@ -7,7 +7,7 @@ use Rattle.vt_model.specs.Handler.{Handlers}
 use Rattle.vt_steps.specs.World.{LogicalProcess}
 use Rattle.vt_steps.specs.ProcessSteps.{can_annihilate}
 use Rattle.vt_past.specs.declared.event.PastEvent.{PastEvent}
-use Rattle.vt_pending.specs.Letters.{IsRising}
+use Rattle.vt_key.specs.Queues.{IsRising}
 use Rattle.vt_pending.proofs.Placing.{not-back}
 use Rattle.vt_lp.specs.Held.{HeldProcess, StandsFor}
 use Rattle.vt_lp.specs.Guards.{may_come_after, HasNothingToSettle}

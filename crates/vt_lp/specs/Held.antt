@@ -18,7 +18,7 @@ use Rattle.vt_model.specs.Simulation.{Triple, simulation_of, rows_of}
 use Rattle.vt_model.specs.Settings.{end_of}
 use Rattle.vt_steps.specs.World.{LogicalProcess}
 use Rattle.vt_steps.specs.StandsFor.{Remembered, ProcessMemory, StandsForProcess}
-use Rattle.vt_pending.specs.Letters.{holds_rank}
+use Rattle.vt_key.specs.Queues.{holds_rank}
 use Rattle.vt_past.specs.declared.event.PastEvent.{PastEvent}
 
 -- the events of these past events, in their order

@@ -9,7 +9,7 @@ ghost use Rattle.vt_model.specs.declared.limits.TheConstants.{MAX_RECORDS};
 ghost use Rattle.vt_model.specs.Process.{triple_at, IsProcessStream};
 ghost use Rattle.vt_model.specs.Simulation.{simulation_of};
 ghost use Rattle.vt_model.specs.Settings.{end_of};
-ghost use Rattle.vt_pending.specs.Letters.{IsRising};
+ghost use Rattle.vt_key.specs.Queues.{IsRising};
 ghost use Rattle.vt_stream.specs.Words.{moved};
 ghost use Rattle.vt_steps.specs.Letters.{unstamped, stamped, signed};
 ghost use Rattle.vt_steps.specs.StandsFor.{IsRemembered};

@@ -2,13 +2,12 @@
 use Rattle.std.proofs.Common.{Bool, true, false, if◌then◌else◌, ◌≡◌, refl, sym, ap, ◌∙◌}
 use Rattle.std.specs.Prelude.{List, [], ◌∷◌, filter, find, Option, Some, None}
 use Rattle.vt_key.specs.Order.{RankBefore, rank_before}
-use Rattle.vt_key.specs.Queues.{without_first, letter_rank, insert_letter}
+use Rattle.vt_key.specs.Queues.{without_first, letter_rank, insert_letter, AllAfter, IsRising}
 use Rattle.vt_key.specs.declared.order.Rank.{Rank}
 use Rattle.vt_key.specs.declared.letter.Letter.{Letter}
 use Rattle.vt_key.proofs.ListLemmas.{every-filter}
 use Rattle.vt_key.proofs.OrderLemmas.{rank_before-true, before-rank_before}
-use Rattle.vt_pending.specs.Letters.{AllAfter, IsRising}
-use Rattle.vt_pending.proofs.Rising.{AllAfter-before}
+use Rattle.vt_key.proofs.RisingLemmas.{AllAfter-before}
 
 -- ---- of any list
 

@@ -2,12 +2,12 @@
 use Rattle.std.proofs.Common.{Bool, true, false, not, ◌||◌, if◌then◌else◌, ◌≡◌, refl, sym, ◌∙◌, ap, subst}
 use Rattle.std.specs.Prelude.{List, [], ◌∷◌, Some, filter, find}
 use Rattle.vt_key.specs.Order.{RankBefore, rank_before, rank_same}
-use Rattle.vt_key.specs.Queues.{letter_rank, has_rank}
+use Rattle.vt_key.specs.Queues.{letter_rank, has_rank, holds_rank, AllAfter, IsRising}
 use Rattle.vt_key.specs.declared.order.Rank.{Rank}
 use Rattle.vt_key.specs.declared.letter.Letter.{Letter}
 use Rattle.vt_key.proofs.OrderLemmas.{rank-irreflexive, rank_before-true, before-rank_before, rank_same-true}
-use Rattle.vt_pending.specs.Letters.{some_has_rank, holds_rank, is_reached, AllAfter, IsRising}
-use Rattle.vt_pending.proofs.Rising.{first-false, second-false}
+use Rattle.vt_pending.specs.Letters.{some_has_rank, is_reached}
+use Rattle.vt_key.proofs.RisingLemmas.{first-false, second-false}
 
 -- a rank that is before another is not the same
 pub before-differs : (a r : Rank) → RankBefore a r → rank_same a r ≡ false

@@ -4,7 +4,6 @@ pub mod Holding
 mod Inserting
 mod Kept
 pub mod Placing
-pub mod Rising
 mod Rows
 mod Searching
 mod Words

@@ -3,15 +3,14 @@
 use Rattle.std.proofs.Common.{Bool, true, false, not, if◌then◌else◌, ◌≡◌, refl, sym, ap, ◌∙◌, inl, inr, subst}
 use Rattle.std.specs.Prelude.{ℕ, List, [], ◌∷◌, filter, find, slice_get, Option, Some, None}
 use Rattle.vt_key.specs.Order.{RankBefore, rank_before}
-use Rattle.vt_key.specs.Queues.{letter_rank}
+use Rattle.vt_key.specs.Queues.{letter_rank, AllAfter, IsRising}
 use Rattle.vt_key.specs.declared.order.Rank.{Rank}
 use Rattle.vt_key.specs.declared.letter.Letter.{Letter}
 use Rattle.vt_key.proofs.ListLemmas.{every-filter, rising-filter}
 use Rattle.vt_key.proofs.OrderLemmas.{rank-total, rank-transitive, rank_before-true, before-rank_before}
-use Rattle.vt_pending.specs.Letters.{AllAfter, IsRising}
 use Rattle.vt_pending.specs.Buckets.{in_bucket, not_in_bucket, both_before, lesser, least_from, IsRow}
 use Rattle.vt_pending.proofs.Placing.{not-back}
-use Rattle.vt_pending.proofs.Rising.{AllAfter-before}
+use Rattle.vt_key.proofs.RisingLemmas.{AllAfter-before}
 use Rattle.vt_pending.proofs.Rows.{own, in-own}
 
 -- a rank that isn't before a second one isn't before a third one that isn't after the second

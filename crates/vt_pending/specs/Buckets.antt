@@ -2,10 +2,10 @@
 use Rattle.std.specs.Prelude.{◌≡◌, ◌≢◌, ℕ, ◌%◌, ◌<◌, ◌↔◌, Bool, false, not, ◌||◌, nat_eq, IsBitSet, List, [], ◌∷◌, filter, find, slice_get, Option, None, Some, if◌then◌else◌}
 use Rattle.vt_key.specs.Order.{rank_before}
 use Rattle.vt_key.specs.Times.{ticks_of}
-use Rattle.vt_key.specs.Queues.{letter_rank, insert_letter}
+use Rattle.vt_key.specs.Queues.{letter_rank, insert_letter, IsRising}
 use Rattle.vt_key.specs.declared.order.Rank.{Rank}
 use Rattle.vt_key.specs.declared.letter.Letter.{Letter}
-use Rattle.vt_pending.specs.Letters.{reached_has, IsRising}
+use Rattle.vt_pending.specs.Letters.{reached_has}
 
 -- the number of the list where letters of this rank are
 abbrev pub bucket_of : Rank → ℕ

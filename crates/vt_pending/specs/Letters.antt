@@ -1,22 +1,16 @@
 -- Letters in the order of their ranks.
 use Rattle.std.specs.Prelude.{Bool, false, not, Option, None, Some, List, find}
-use Rattle.std.specs.List.{list_any, AllByRecursion}
-use Rattle.vt_key.specs.Order.{RankBefore, rank_before}
+use Rattle.vt_key.specs.Order.{rank_before}
 use Rattle.vt_key.specs.Queues.{without_first, letter_rank, has_rank, has_stamp}
 use Rattle.vt_key.specs.declared.order.Rank.{Rank}
 use Rattle.vt_key.specs.declared.order.Stamp.{Stamp}
 use Rattle.vt_key.specs.declared.letter.Letter.{Letter}
-use Rattle.vt_key.specs.Lists.{IsRisingBy}
 
 module _ {P : Type 0} where
   -- there is a letter, and it has this rank
   abbrev pub some_has_rank : Rank → Option (Letter P) → Bool
   some_has_rank rank None = false
   some_has_rank rank (Some letter) = has_rank rank letter
-
-  -- some letter has this rank
-  abbrev pub holds_rank : Rank → List (Letter P) → Bool
-  holds_rank rank = list_any (has_rank rank)
 
   -- a letter that isn't before the rank
   abbrev pub is_reached : Rank → Letter P → Bool
@@ -33,11 +27,3 @@ module _ {P : Type 0} where
   -- the letters without the first that has this stamp, or all where none has it
   abbrev pub without_stamp : Stamp → List (Letter P) → List (Letter P)
   without_stamp stamp = without_first (has_stamp stamp)
-
-  -- each of the letters has a rank after this one
-  abbrev pub AllAfter : Rank → List (Letter P) → Type 0
-  AllAfter rank = AllByRecursion (λ letter. RankBefore rank (letter_rank letter))
-
-  -- the ranks of the letters rise strictly
-  abbrev pub IsRising : List (Letter P) → Type 0
-  IsRising = IsRisingBy (λ a b. RankBefore (letter_rank a) (letter_rank b))

@@ -3,8 +3,8 @@
 ghost use Rattle.std.specs.Prelude.{◌≡◌, ◌≢◌, ℕ, ◌<◌, ◌↔◌, [], None, false, true, find, nat_eq, IfErr, IfOk, IsBitSet};
 ghost use Rattle.std.specs.Option.{option_copied};
 ghost use Rattle.vt_key.specs.Order.{rank_before};
-ghost use Rattle.vt_key.specs.Queues.{insert_letter};
-ghost use Rattle.vt_pending.specs.Letters.{some_has_rank, holds_rank, reached_has, IsRising};
+ghost use Rattle.vt_key.specs.Queues.{insert_letter, holds_rank, IsRising};
+ghost use Rattle.vt_pending.specs.Letters.{some_has_rank, reached_has};
 ghost use Rattle.vt_pending.specs.Buckets.{bucket_of, some_in_bucket, both_before, lesser, least_from, list_at, without_list, first_holds, insert_here, insert_in, put_list, put_some, letters_of, IsRow};
 
 use crate::mask::Mask;

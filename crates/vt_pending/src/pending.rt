@@ -3,8 +3,8 @@
 ghost use Rattle.std.specs.Prelude.{◌≡◌, ℕ, ◌<◌, ◌-◌, ◌%◌, ◌^◌, ◌↔◌, [], ◌∷◌, false, length, find, slice_get, MatchOption, IfOk, IfErr, IfNone, IsBitSet, IsNone, IsTrue, true};
 ghost use Rattle.std.specs.List.{list_any};
 ghost use Rattle.std.specs.Option.{option_copied};
-ghost use Rattle.vt_key.specs.Queues.{has_stamp, insert_letter};
-ghost use Rattle.vt_pending.specs.Letters.{holds_rank, first_of_stamp, without_stamp, IsRising};
+ghost use Rattle.vt_key.specs.Queues.{has_stamp, insert_letter, holds_rank, IsRising};
+ghost use Rattle.vt_pending.specs.Letters.{first_of_stamp, without_stamp};
 ghost use Rattle.vt_pending.specs.Buckets.{in_bucket};
 
 use crate::buckets::{

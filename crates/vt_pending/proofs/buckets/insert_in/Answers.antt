@@ -1,6 +1,5 @@
 use Rattle.std.proofs.Common.{◌≡◌, ◌++◌, Result, Ok, Err, IfOk, IfErr, sym, ap, ◌∙◌}
-use Rattle.vt_key.specs.Queues.{letter_rank}
-use Rattle.vt_pending.specs.Letters.{holds_rank}
+use Rattle.vt_key.specs.Queues.{letter_rank, holds_rank}
 use Rattle.vt_pending.specs.Buckets.{list_at, first_holds, insert_here, insert_in, letters_of}
 use Rattle.vt_pending.proofs.Rows.{own}
 use Rattle.vt_pending.proofs.Inserting.{insert-parted, list-ahead, held-ahead}

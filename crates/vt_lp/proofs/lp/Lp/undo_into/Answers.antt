@@ -2,7 +2,7 @@ use Rattle.std.proofs.Common.{◌≡◌, ◌∙◌, ◌+◌, ◌-◌, ◌%◌, �
 use Rattle.std.specs.List.{All}
 use Rattle.std.proofs.lemmas.List.Elements.{All-append}
 use Rattle.std.proofs.lemmas.List.{length_push}
-use Rattle.vt_key.specs.Queues.{insert_letter}
+use Rattle.vt_key.specs.Queues.{insert_letter, holds_rank}
 use Rattle.vt_key.specs.declared.limits.TheConstants.{MAX_COUNT}
 use Rattle.vt_key.specs.declared.letter.Letter.{Letter}
 use Rattle.vt_stream.specs.Words.{Stream}
@@ -10,7 +10,6 @@ use Rattle.vt_model.specs.declared.limits.TheConstants.{MAX_DRAWS}
 use Rattle.vt_model.specs.Process.{triple_at}
 use Rattle.vt_model.specs.Settings.{end_of}
 use Rattle.vt_steps.specs.Letters.{unstamped}
-use Rattle.vt_pending.specs.Letters.{holds_rank}
 use Rattle.vt_past.specs.declared.event.PastEvent.{PastEvent}
 use Rattle.vt_past.specs.declared.event.UndoEntry.{UndoEntry}
 use Rattle.vt_lp.specs.Held.{HeldProcess, StandsFor, AllWithinRun, IsWithinRun, IsOwnEvent, IsNotPending}

@@ -1,6 +1,7 @@
 use Rattle.std.proofs.Common.{rules, ◌≡◌, ◌∙◌, false, true, find, filter, sym, ap}
 use Rattle.vt_key.proofs.ListLemmas.{rising-filter}
-use Rattle.vt_pending.specs.Letters.{some_has_rank, holds_rank, is_reached}
+use Rattle.vt_pending.specs.Letters.{some_has_rank, is_reached}
+use Rattle.vt_key.specs.Queues.{holds_rank}
 use Rattle.vt_pending.specs.Buckets.{bucket_of, in_bucket, letters_of, list_at}
 use Rattle.vt_pending.proofs.Holding.{holds-first}
 use Rattle.vt_pending.proofs.Kept.{marks-of, empty-else, holds-own}
