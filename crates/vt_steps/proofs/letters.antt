@@ -10,4 +10,5 @@ pub mod LetterLemmas
 pub mod Entries
 pub mod EventTimes
 pub mod Ranks
+pub mod QueueOrder
 pub mod ProcessSums

@@ -1,5 +1,5 @@
 -- What is claimed of every run.
-use Rattle.std.specs.Prelude.{◌≡◌, ℕ, ◌/◌, ◌%◌, ◌<◌, ◌⊎◌, IsTrue, List, ◌++◌, slice_get, false, Some, Ok, true}
+use Rattle.std.specs.Prelude.{◌≡◌, ℕ, ◌/◌, ◌%◌, ◌<◌, ◌⊎◌, IsTrue, List, ◌++◌, length, slice_get, false, Some, Ok, true}
 use Rattle.std.specs.List.{AllPairs, find}
 use Rattle.vt_key.specs.Times.{Time, TimeAtMost}
 use Rattle.vt_key.specs.declared.order.Stamp.{Stamp}
@@ -8,9 +8,10 @@ use Rattle.vt_key.specs.declared.letter.Mail.{Mail}
 use Rattle.vt_key.specs.declared.fault.Fault.TheVariants.{Closed}
 use Rattle.vt_key.specs.Order.{rank_before}
 use Rattle.vt_key.specs.Lists.{IsRisingBy}
+use Rattle.vt_key.specs.Queues.{IsRising}
 use Rattle.vt_model.specs.declared.rows.Record.{Record}
 use Rattle.vt_model.specs.Simulation.{Simulation, after}
-use Rattle.vt_model.specs.Sequential.{events_before, seq_events, seq_rows, seq_records}
+use Rattle.vt_model.specs.Sequential.{events_before, events_of, whole_run, seq_events, seq_rows, seq_records}
 use Rattle.vt_model.specs.Rows.{RowBefore}
 use Rattle.vt_steps.specs.declared.step.Step.{Step}
 use Rattle.vt_steps.specs.declared.step.Step.TheVariants.{Home, Accept, Report, Commit, Close}
@@ -26,12 +27,25 @@ use Rattle.vt_steps.specs.Copies.{plus, minus, IsLive, IsMade}
 abbrev pub DoRanksRise : {P : Type 0} → LogicalProcess P → Type 0
 DoRanksRise process = AllPairs (λ (a b : Entry _). rank_before a.event.rank b.event.rank ≡ true) (process.done ++ process.past)
 
+-- the pending messages of a process are in strictly rising rank, and so are its waiting anti-messages
+pub record DoQueuesRise {P : Type 0} (process : LogicalProcess P) : Type 0 where
+  pub pending : IsRising process.pending
+  pub waiting : IsRising process.waiting
+
 module _ {S P : Type 0} (sim : Simulation S P) where
   -- this is process p of a world
   abbrev pub IsProcess : World P → ℕ → LogicalProcess P → Type 0
   IsProcess world p process =
       (part : Part P) × (slice_get world.parts (p % sim.workers) ≡ Some part)
       × (slice_get part.processes (p / sim.workers) ≡ Some process)
+
+  -- there is a part and an inbox for each worker, and each process below lps; and there are no others
+  pub record HasEach (world : World P) : Type 0 where
+    pub parts : length world.parts ≡ sim.workers
+    pub inboxes : length world.inboxes ≡ sim.workers
+    pub part : (w : ℕ) → w < sim.workers → (part : Part P) × (slice_get world.parts w ≡ Some part)
+    pub process : (p : ℕ) → p < sim.lps → (process : LogicalProcess P) × IsProcess world p process
+    pub known : (p : ℕ) (process : LogicalProcess P) → IsProcess world p process → p < sim.lps
 
   -- a live stamp has one plus copy and no minus copy; a made stamp that is not live one of each or none; no other has any
   pub record AreCopiesRight (serial : ℕ) (world : World P) (stamp : Stamp) : Type 0 where
@@ -85,11 +99,18 @@ module _ {S P : Type 0} (sim : Simulation S P) where
     pub no_commit : (w : ℕ) → next sim world (Commit w) ≡ refused world Closed
     pub no_close : next sim world Close ≡ refused world Closed
 
+  -- from a world whose book is closed to a later one, the book stays as it is, and each commit and each close is refused as
+  -- closed
+  pub record StaysClosed (old new : World P) : Type 0 where
+    pub book : new.book ≡ old.book
+    pub no_commit : (w : ℕ) → next sim new (Commit w) ≡ refused new Closed
+    pub no_close : next sim new Close ≡ refused new Closed
+
   -- each process stands where the whole run leaves it
   abbrev pub AreProcessesFinal : World P → Type 0
   AreProcessesFinal world =
       (p : ℕ) (process : LogicalProcess P) → p < sim.lps → IsProcess world p process →
-      triple_after sim p (process.done ++ process.past) ≡ after sim p (seq_events sim p sim.end)
+      triple_after sim p (process.done ++ process.past) ≡ after sim p (events_of p (whole_run sim))
 
   -- the copies, ranks and histories of a world are right
   pub record Histories (serial : ℕ) (world : World P) : Type 0 where
@@ -100,12 +121,13 @@ module _ {S P : Type 0} (sim : Simulation S P) where
   -- the headline, of the world after a list of steps and of any more steps: the book's records are exactly the sequential
   -- run's records below the book's floor, in that run's order, each once; the announced time never falls and never exceeds
   -- the least time of any unprocessed or travelling event or anti-message; once closed, the book holds the whole run and
-  -- takes nothing more
+  -- takes nothing more, then and in any further steps
   pub record Headline (serial : ℕ) (steps : List Step) : Type 0 where
     pub floors : AreFloorsRight (reached sim serial steps)
     pub records : AreRecordsRight (reached sim serial steps)
     pub later : (more : List Step) → NothingFalls (reached sim serial steps) (run sim (reached sim serial steps) more)
     pub closed : IsTrue (reached sim serial steps).book.is_closed → IsWhole (reached sim serial steps)
+    pub stays : (more : List Step) → IsTrue (reached sim serial steps).book.is_closed → StaysClosed (reached sim serial steps) (run sim (reached sim serial steps) more)
 
   -- Time Warp is right for a simulation: the headline holds for every opening serial and every list of steps
   abbrev pub IsTimeWarpRight : Type 0

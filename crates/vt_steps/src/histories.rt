@@ -1,4 +1,4 @@
-//! Theorems on copies, ranks and histories: the first half of why an optimistic run is right.
+//! Theorems on copies, ranks, queues and histories: the first half of why an optimistic run is right.
 //!
 //! "After any steps" means: in the world that a list of the eleven steps makes of the opening world. The simulation
 //! is any that meets the laws, and the first serials are any. The list may contain steps that are refused.
@@ -16,7 +16,7 @@ ghost use Rattle.vt_steps.specs.declared.step.Reply.TheVariants.{Done};
 ghost use Rattle.vt_steps.specs.World.{LogicalProcess, Part};
 ghost use Rattle.vt_steps.specs.PartSteps.{is_for};
 ghost use Rattle.vt_steps.specs.Next.{next, reached};
-ghost use Rattle.vt_steps.specs.Claims.{AreCopiesRight, IsProcess, DoRanksRise, AreHistoriesRight};
+ghost use Rattle.vt_steps.specs.Claims.{AreCopiesRight, IsProcess, DoRanksRise, DoQueuesRise, HasEach, AreHistoriesRight};
 
 /// A stamp is live if a start sent its event, or if the event that sent it is executed. After any steps, a live stamp
 /// has one message or executed event, and no anti-message. A stamp that was made and isn't live has one of each, or
@@ -33,6 +33,22 @@ pub fn ranks_rise<S, P>()
     ghost sim: { Simulation S P }
     requires { IsLawful sim }
     ensures { (serial : ℕ) (steps : List Step) (p : ℕ) (process : LogicalProcess P) → IsProcess sim (reached sim serial steps) p process → DoRanksRise process }
+{}
+
+/// After any steps, the pending messages of each process are in strictly rising rank, and so are its waiting
+/// anti-messages. So execute takes the least pending message, and no two letters of a queue have one rank.
+///
+/// This holds without the laws of the simulation, and in any order of delivery.
+pub fn queues_rise<S, P>()
+    ghost sim: { Simulation S P }
+    ensures { (serial : ℕ) (steps : List Step) (p : ℕ) (process : LogicalProcess P) → IsProcess sim (reached sim serial steps) p process → DoQueuesRise process }
+{}
+
+/// After any steps, there is a part and an inbox for each worker, and each process below `lps`; and there are no others.
+pub fn each_process_is_there<S, P>()
+    ghost sim: { Simulation S P }
+    requires { IsLawful sim }
+    ensures { (serial : ℕ) (steps : List Step) → HasEach sim (reached sim serial steps) }
 {}
 
 /// Let the world be quiet below a time: no event and no anti-message before it is unprocessed or travelling. Then, after

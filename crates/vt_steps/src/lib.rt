@@ -12,7 +12,10 @@ mod memory;
 mod step;
 mod theorem;
 
-pub use histories::{copies_are_right, histories_are_right, letters_are_delivered, ranks_rise};
+pub use histories::{
+    copies_are_right, each_process_is_there, histories_are_right, letters_are_delivered,
+    queues_rise, ranks_rise,
+};
 pub use laws::{
     letters_annihilate, letters_are_kept, local_steps_change_one_part, mail_is_kept,
     refused_steps_change_nothing, reports_are_answered, steps_act_on_one_cell,

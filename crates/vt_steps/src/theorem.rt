@@ -14,7 +14,7 @@ ghost use Rattle.vt_steps.specs.Rows.{rows_in_order};
 ghost use Rattle.vt_steps.specs.World.{Part, least};
 ghost use Rattle.vt_steps.specs.Finals.{worker_finals, part_values};
 ghost use Rattle.vt_steps.specs.Next.{reached, run};
-ghost use Rattle.vt_steps.specs.Claims.{AreFloorsRight, AreRecordsRight, NothingFalls, IsWhole, AreProcessesFinal, DoGuardsPass, IsTimeWarpRight};
+ghost use Rattle.vt_steps.specs.Claims.{AreFloorsRight, AreRecordsRight, NothingFalls, IsWhole, StaysClosed, AreProcessesFinal, DoGuardsPass, IsTimeWarpRight};
 
 /// After any steps, the book's floor is at most the announced time. The announced time is at most the least time of
 /// any unprocessed or travelling event or anti-message. In any further steps neither falls, and the records that the
@@ -42,7 +42,7 @@ pub fn records_are_right<S, P>()
 
 /// Once the book is closed, its floor is the end of the run and its records are those of the whole sequential run.
 /// Each commit and each close is refused as closed. Each logical process stands where its events of the whole run
-/// leave it. In any further steps the book is unchanged.
+/// leave it. In any further steps the book is unchanged, and each commit and each close is refused as closed.
 pub fn closed_book_is_whole<S, P>()
     ghost sim: { Simulation S P }
     requires { IsLawful sim }
@@ -54,7 +54,7 @@ pub fn closed_book_is_whole<S, P>()
         AreProcessesFinal sim (reached sim serial steps) }
     ensures stays { (serial : ℕ) (steps more : List Step) →
         IsTrue (reached sim serial steps).book.is_closed →
-        (run sim (reached sim serial steps) more).book ≡ (reached sim serial steps).book }
+        StaysClosed sim (reached sim serial steps) (run sim (reached sim serial steps) more) }
 {}
 
 /// Once a worker's floor is the end of the run, nothing is unprocessed or travelling any more, whether the book is closed or
@@ -87,7 +87,8 @@ pub fn guards_never_fail<S, P>()
 ///   once;
 /// - the announced time never falls, and never exceeds the least time of any unprocessed or travelling event or
 ///   anti-message;
-/// - once closed, the book holds the whole run and takes nothing more.
+/// - once closed, the book holds the whole run and takes nothing more: in any further steps it stays closed and as it is,
+///   and each commit and each close is refused as closed.
 ///
 /// Copies, ranks, histories and guards have theorems of their own.
 pub fn headline<S, P>()

@@ -7,7 +7,7 @@ use Rattle.vt_steps.specs.Claims.{DoGuardsPass, IsTimeWarpRight}
 use Rattle.vt_steps.specs.Next.{reached}
 use Rattle.vt_steps.proofs.time.Floors.{reached-times}
 use Rattle.vt_steps.proofs.steps.LetterGuards.{accepts-done, homes-done}
-use Rattle.vt_steps.proofs.book.ReachedBooks.{closed-whole, reached-accounted, reached-falls}
+use Rattle.vt_steps.proofs.book.ReachedBooks.{closed-takes_nothing, closed-whole, reached-accounted, reached-falls}
 use Rattle.vt_steps.proofs.book.Records.{floors-right, records-right}
 use Rattle.vt_steps.proofs.steps.TimeGuards.{commit-done, report-taken}
 
@@ -31,4 +31,5 @@ module _ {S P : Type 0} (sim : Simulation S P) (lawful : IsLawful sim) where
         records = records-right sim lawful world known;
         later = reached-falls sim lawful serial steps;
         closed = closed-whole sim lawful serial steps;
+        stays = λ more shut. closed-takes_nothing sim world more shut;
       }

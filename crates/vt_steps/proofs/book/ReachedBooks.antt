@@ -6,10 +6,11 @@ use Rattle.vt_key.specs.Order.{RankBefore}
 use Rattle.vt_key.specs.Times.{TimeAtMost, TimeBefore}
 use Rattle.vt_model.specs.declared.sending.Sent.{Sent}
 use Rattle.vt_model.specs.Histories.{IsLawful}
-use Rattle.vt_model.specs.Sequential.{seq_events, seq_records}
+use Rattle.vt_model.specs.Sequential.{events_of, whole_run, seq_records}
 use Rattle.vt_model.specs.Simulation.{Simulation, after}
+use Rattle.vt_model.proofs.EndLemmas.{events-end}
 use Rattle.vt_steps.specs.declared.step.Step.{Step}
-use Rattle.vt_steps.specs.Claims.{AreProcessesFinal, IsProcess, IsWhole, NothingFalls}
+use Rattle.vt_steps.specs.Claims.{AreProcessesFinal, IsProcess, IsWhole, NothingFalls, StaysClosed}
 use Rattle.vt_steps.specs.Letters.{unstamped}
 use Rattle.vt_steps.specs.Next.{next, reached, run}
 use Rattle.vt_steps.proofs.steps.CellSteps.{next-commit_closed, next-close_closed}
@@ -100,6 +101,17 @@ closed-stays sim world (step ∷ more) shut =
     let same = closed-change sim world new (next_changes sim world step) shut in
     closed-stays sim new more (ap (λ b. b.is_closed) same ∙ shut) ∙ same
 
+-- and takes nothing more in any of them
+pub closed-takes_nothing : {S P : Type 0} (sim : Simulation S P) (world : World P) (more : List Step) → IsTrue world.book.is_closed → StaysClosed sim world (run sim world more)
+closed-takes_nothing sim world more shut =
+    let same = closed-stays sim world more shut in
+    let still : IsTrue (run sim world more).book.is_closed = ap (λ b. b.is_closed) same ∙ shut in
+    record {
+      book = same;
+      no_commit = λ w. next-commit_closed sim (run sim world more) w still;
+      no_close = next-close_closed sim (run sim world more) still;
+    }
+
 module _ {S P : Type 0} (sim : Simulation S P) (lawful : IsLawful sim) (serial : ℕ) (steps : List Step) where
   -- what each process executed is before the end of the run
   executed-ends : (p : ℕ) (process : LogicalProcess P) → IsProcess sim (reached sim serial steps) p process → AllByRecursion (λ (e : Sent P). TimeBefore e.key.time sim.end) (entry_events (process.done ++ process.past))
@@ -112,9 +124,9 @@ module _ {S P : Type 0} (sim : Simulation S P) (lawful : IsLawful sim) (serial :
 
   -- where nothing is unprocessed or travelling each process stands where the run leaves it
   pub quiet-triple : TimeAtMost sim.end (least sim.end (reached sim serial steps)) → (p : ℕ) (process : LogicalProcess P) → p < sim.lps → IsProcess sim (reached sim serial steps) p process →
-      triple_after sim p (process.done ++ process.past) ≡ after sim p (seq_events sim p sim.end)
+      triple_after sim p (process.done ++ process.past) ≡ after sim p (events_of p (whole_run sim))
   quiet-triple quiet p process less is =
-      ap (after sim p) (sym (early-events sim.end (entry_events (process.done ++ process.past)) (executed-ends p process is)) ∙ (reached-accounted sim lawful serial steps).histories sim.end p process less quiet is)
+      ap (after sim p) (sym (early-events sim.end (entry_events (process.done ++ process.past)) (executed-ends p process is)) ∙ (reached-accounted sim lawful serial steps).histories sim.end p process less quiet is ∙ events-end sim lawful p)
 
   -- once closed nothing is unprocessed or travelling, so each process stands where the run leaves it
   pub closed-finals : IsTrue (reached sim serial steps).book.is_closed → AreProcessesFinal sim (reached sim serial steps)

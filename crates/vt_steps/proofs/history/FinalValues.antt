@@ -1,32 +1,20 @@
 -- Once a worker's floor is the end of the run, the final values of each worker's processes are those of the sequential run.
-use Rattle.std.proofs.Common.{◌≡◌, ℕ, suc, ◌+◌, ◌<◌, List, [], ◌∷◌, ◌++◌, length, map, refl, ◌∙◌, ap, subst, arith, Some, slice_get}
+use Rattle.std.proofs.Common.{◌≡◌, ℕ, suc, ◌+◌, List, [], ◌∷◌, ◌++◌, length, map, refl, ◌∙◌, ap, subst, arith, Some, slice_get}
 use Rattle.std.specs.List.{range_with_len}
-use Rattle.vt_key.specs.Times.{TimeAtMost, TimeBefore}
-use Rattle.vt_model.specs.declared.sending.Sent.{Sent}
+use Rattle.vt_key.specs.Times.{TimeAtMost}
 use Rattle.vt_model.specs.Histories.{IsLawful}
-use Rattle.vt_model.specs.Sequential.{events_of, whole_run, seq_events}
+use Rattle.vt_model.specs.Sequential.{events_of, whole_run}
 use Rattle.vt_model.specs.Simulation.{Simulation, after}
-use Rattle.vt_model.proofs.EndLemmas.{whole_is_history}
-use Rattle.vt_model.proofs.RunLemmas.{known_sent}
 use Rattle.vt_steps.specs.declared.step.Step.{Step}
 use Rattle.vt_steps.specs.Finals.{final_value, worker_finals, values_of_processes, part_values}
 use Rattle.vt_steps.specs.Next.{reached}
 use Rattle.vt_steps.specs.World.{LogicalProcess, Part, least, process_at, triple_after}
 use Rattle.vt_steps.proofs.letters.Entries.{process-at_place}
-use Rattle.vt_steps.proofs.letters.EventTimes.{early-events}
-use Rattle.vt_key.proofs.ListLemmas.{every-all}
 use Rattle.vt_steps.proofs.book.ReachedBooks.{reached-accounted, quiet-triple}
 use Rattle.vt_steps.proofs.book.Records.{floors-right}
 use Rattle.vt_steps.proofs.steps.Shape.{reached-shape, part-within, process-known}
 
 module _ {S P : Type 0} (sim : Simulation S P) (lawful : IsLawful sim) where
-  -- each event of the whole run is before its end
-  pub events-end : (p : ℕ) → p < sim.lps → seq_events sim p sim.end ≡ events_of p (whole_run sim)
-  events-end p less =
-      let lists : ℕ → List (Sent P) = λ q. events_of q (whole_run sim) in
-      early-events sim.end (lists p) (every-all (λ (e : Sent P). TimeBefore e.key.time sim.end) (lists p)
-      (λ e m. (known_sent sim lawful lists e ((whole_is_history sim lawful (suc e.key.time)).sent p e less (omega arith) m)).1))
-
   module _ (serial : ℕ) (steps : List Step) where
     -- where a worker's floor is the end, nothing is unprocessed or travelling
     pub quiet-at_end : (w : ℕ) (part : Part P) → slice_get (reached sim serial steps).parts w ≡ Some part → TimeAtMost sim.end part.floor → TimeAtMost sim.end (least sim.end (reached sim serial steps))
@@ -46,7 +34,6 @@ module _ {S P : Type 0} (sim : Simulation S P) (lawful : IsLawful sim) where
           let shape = reached-shape sim serial steps in
           let less = process-known sim world shape w place part process at there in
           quiet-triple sim lawful serial steps quiet (process_at sim w place) process less (process-at_place sim world w place part process (part-within sim world shape w part at) at there)
-          ∙ ap (after sim (process_at sim w place)) (events-end (process_at sim w place) less)
 
       -- those from an index on
       final-values : (place : ℕ) (processes : List (LogicalProcess P)) → ((i : ℕ) (process : LogicalProcess P) → slice_get processes i ≡ Some process → slice_get part.processes (place + i) ≡ Some process) →

@@ -1,5 +1,5 @@
 -- Lists of events whose times never fall: those before a time come first.
-use Rattle.std.proofs.Common.{◌≡◌, true, false, List, [], ◌∷◌, ◌++◌, refl, ◌∙◌, ap, arith, append-nil}
+use Rattle.std.proofs.Common.{◌≡◌, false, List, [], ◌∷◌, ◌++◌, refl, ◌∙◌, ap, arith, append-nil}
 use Rattle.std.proofs.lemmas.Bool.Decides.{nat_tests}
 use Rattle.std.proofs.lemmas.List.Elements.{filter-append}
 use Rattle.std.specs.List.{AllByRecursion}
@@ -10,10 +10,10 @@ use Rattle.vt_key.specs.Lists.{IsRisingBy}
 use Rattle.vt_model.specs.declared.sending.Sent.{Sent}
 use Rattle.vt_model.specs.Histories.{IsRising}
 use Rattle.vt_model.specs.Sequential.{events_before}
-use Rattle.vt_model.proofs.RunLemmas.{filter-yes, filter-no}
+use Rattle.vt_model.proofs.RunLemmas.{filter-all, filter-no}
 use Rattle.vt_steps.specs.Letters.{unstamped}
 use Rattle.vt_steps.specs.World.{Entry, entry_events}
-use Rattle.vt_key.proofs.ListLemmas.{every-map, every-weaker, rising-weaker}
+use Rattle.vt_key.proofs.ListLemmas.{every-among, every-map, every-weaker, rising-weaker}
 use Rattle.vt_steps.proofs.letters.RankTimes.{rank-order-time}
 
 -- no event of the list is before a time
@@ -34,11 +34,8 @@ late-events t (e ∷ es) h =
 
 -- where all events are before a time, those before it are all
 pub early-events : {P : Type 0} (t : Time) (events : List (Sent P)) → AllByRecursion (λ (e : Sent P). TimeBefore e.key.time t) events → events_before t events ≡ events
-early-events t [] h = refl
-early-events t (e ∷ es) h =
-    let soon = h.0 in
-    let is : time_before e.key.time t ≡ true = grind (arith, nat_tests) in
-    filter-yes (λ d. time_before d.key.time t) e es is ∙ ap (λ l. e ∷ l) (early-events t es h.1)
+early-events {P} t events h =
+    filter-all (λ e. time_before e.key.time t) events (λ e m. (let soon = every-among (λ (d : Sent P). TimeBefore d.key.time t) events e h m in grind (arith, nat_tests)))
 
 -- what follows a late event is late
 pub late-rest : {P : Type 0} (t : Time) (e : Sent P) (events : List (Sent P)) → TimeAtMost t e.key.time → AllByRecursion (λ d. TimeAtMost e.key.time d.key.time) events → AreEventsLate t events

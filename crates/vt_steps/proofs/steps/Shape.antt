@@ -10,6 +10,7 @@ use Rattle.std.proofs.lemmas.List.FromFn.{length-map-range_with_len}
 use Rattle.std.proofs.lemmas.Option.{slice_get_within}
 use Rattle.vt_model.specs.Simulation.{Simulation}
 use Rattle.vt_steps.specs.declared.step.Step.{Step}
+use Rattle.vt_steps.specs.Claims.{HasEach}
 use Rattle.vt_steps.specs.Next.{reached}
 use Rattle.vt_key.specs.declared.letter.Letter.{Letter}
 use Rattle.vt_steps.specs.World.{LogicalProcess, Part, World, process_at, process_count, opening_part, opening_world}
@@ -133,3 +134,19 @@ module _ {S P : Type 0} (sim : Simulation S P) where
       (process : LogicalProcess P) × (slice_get part.processes (p / sim.workers) ≡ Some process)
   known-process world h p part some less at =
       get-within part.processes (p / sim.workers) (let fits = known-place sim p some less in let size = h.processes (p % sim.workers) part at in omega arith)
+
+  -- so a shaped world has each part and each process, and no others
+  pub shaped-has_each : (world : World P) → IsShaped sim world → 1 ≤ sim.workers → HasEach sim world
+  shaped-has_each world h some = record {
+    parts = h.parts;
+    inboxes = h.inboxes;
+    part = λ w less. there w less;
+    process = λ p less. (
+        let part = there (p % sim.workers) (mod-lt p some) in
+        let process = known-process world h p part.0 some less part.1 in
+        (process.0, (part.0, part.1, process.1)));
+    known = λ p process is. subst (λ n. n < sim.lps) (own-place sim p) (process-known world h (p % sim.workers) (p / sim.workers) is.0 process is.1 is.2);
+  }
+    where
+      there : (w : ℕ) → w < sim.workers → (part : Part P) × (slice_get world.parts w ≡ Some part)
+      there w less = get-within world.parts w (let size = h.parts in omega arith)
