@@ -4,7 +4,8 @@ ghost use Rattle.std.specs.Prelude.{◌≡◌, ◌++◌, ◌%◌, ◌^◌, ◌�
 ghost use Rattle.std.specs.Option.{option_copied};
 ghost use Rattle.vt_steps.specs.Letters.{least_time};
 ghost use Rattle.vt_steps.specs.World.{LogicalProcess};
-ghost use Rattle.vt_lp.specs.Held.{StandsFor};
+ghost use Rattle.vt_key.specs.Queues.{IsRising};
+ghost use Rattle.vt_lp.specs.Held.{StandsFor, IsRisingPast};
 ghost use Rattle.vt_lp.specs.Guards.{ready_rank, lesser_rank, is_unsettled, HasNothingToSettle};
 ghost use Rattle.vt_model.specs.Handler.{Handlers};
 ghost use Rattle.vt_model.specs.Settings.{end_of};
@@ -143,11 +144,13 @@ impl<M: EventModel> Lp<M> {
         }
     }
 
-    /// The least rank of all pending messages and waiting anti-messages; None if there are none.
+    /// The least rank of all pending messages and waiting anti-messages; None if there are none. The ranks of each of
+    /// the two queues rise strictly, and so do those of the past events.
     pub fn least_rank(&self) -> Option<Rank>
         ensures rank { result ≡ lesser_rank (slice_get self.now.pending 0) (slice_get self.now.waiting 0) }
         ensures time { IfSome result (λ rank. rank.key.time ≡ least_time (end_of self.now.config) (self.now.pending ++ self.now.waiting)) }
         ensures nothing { IfNone result ((self.now.pending ≡ []) × (self.now.waiting ≡ [])) }
+        ensures rising { IsRising self.now.pending × IsRising self.now.waiting × IsRisingPast self.now.past }
     {
         lesser(self.pending.least(), self.waiting.least())
     }
@@ -155,7 +158,8 @@ impl<M: EventModel> Lp<M> {
     /// The rank of the event that [`Lp::execute`] would execute: that of the least pending message, if it comes after
     /// the last past event. Otherwise None.
     pub fn ready(&self) -> Option<Rank>
-        ensures { result ≡ ready_rank self.now.pending self.now.past }
+        ensures rank { result ≡ ready_rank self.now.pending self.now.past }
+        ensures rising { IsRising self.now.pending × IsRisingPast self.now.past }
     {
         let least = self.pending.least()?;
         if !ends_before(&self.past, least.event.rank) {

@@ -1,7 +1,7 @@
 -- Letters in the order of their ranks.
 use Rattle.std.specs.Prelude.{Bool, false, not, Option, None, Some, List, find}
 use Rattle.vt_key.specs.Order.{rank_before}
-use Rattle.vt_key.specs.Queues.{without_first, letter_rank, has_rank, has_stamp}
+use Rattle.vt_key.specs.Queues.{without_first, has_rank, has_stamp}
 use Rattle.vt_key.specs.declared.order.Rank.{Rank}
 use Rattle.vt_key.specs.declared.order.Stamp.{Stamp}
 use Rattle.vt_key.specs.declared.letter.Letter.{Letter}

@@ -14,6 +14,6 @@ returns g c =
     let lookup = c.in_ok-process.ensures.lookup in
     let inside : place < length processes = ltb-true place (length processes) (sym lookup.0) in
     let at = slice_get-get_or processes place q inside ∙ ap Some (sym lookup.1) in
-    let both : other_rank c.ready.result c.least_rank.result ≡ unready_of q = λ j. other_rank (c.ready.ensures j) (c.least_rank.ensures.rank j) in
+    let both : other_rank c.ready.result c.least_rank.result ≡ unready_of q = λ j. other_rank (c.ready.ensures.rank j) (c.least_rank.ensures.rank j) in
     let own : c.other_than.result ≡ unready_of q = c.other_than.ensures ∙ both in
     own ∙ sym (entry-there unready_of processes place q at)
