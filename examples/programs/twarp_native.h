@@ -267,10 +267,14 @@ static struct twarp_event twarp_pop(void) {
 
 // ---- The handlers.
 
-// Objects of the model lie between guards that a sanitizer watches. So their bytes are copied one by one.
+#ifdef TWARP_ADDRESSES
+// Objects of the model lie between guards that the sanitizer watches. So their bytes are copied one by one.
 TWARP_UNWATCHED static void twarp_copy(volatile u8 *to, const volatile u8 *from, u64 count) {
   for (u64 i = 0; i < count; i++) to[i] = from[i];
 }
+#else
+static void twarp_copy(u8 *to, const u8 *from, u64 count) { __builtin_memcpy(to, from, count); }
+#endif
 
 static void twarp_load(void) {
   u8 *state = twarp_run.processes[twarp_run.lp].state;
@@ -517,9 +521,9 @@ static u64 twarp_number(const char *option, const char *text, u64 least, u64 mos
   return value;
 }
 
-static int twarp_yes(const char *option, const char *text) {
-  if (twarp_strcmp(text, "yes") != 0 && twarp_strcmp(text, "no") != 0) twarp_stop("--%s takes yes or no, not '%s'", option, text);
-  return text[0] == 'y';
+static int twarp_is_no(const char *text) {
+  if (twarp_strcmp(text, "yes") != 0 && twarp_strcmp(text, "no") != 0) twarp_stop("--records takes yes or no, not '%s'", text);
+  return text[0] == 'n';
 }
 
 static void twarp_take_set(const char *text) {
@@ -538,13 +542,12 @@ static void twarp_take(const char *name, const char *value) {
   else if (twarp_strcmp(name, "seed") == 0) run->seed = twarp_number(name, value, 0, TWARP_NONE);
   else if (twarp_strcmp(name, "set") == 0) twarp_take_set(value);
   else if (twarp_strcmp(name, "data") == 0) run->data_path = value;
-  else if (twarp_strcmp(name, "records") == 0) run->silent = !twarp_yes(name, value);
-  else if (twarp_strcmp(name, "finals") == 0) run->finals = twarp_yes(name, value);
+  else if (twarp_strcmp(name, "records") == 0) run->silent = twarp_is_no(value);
   else {
     for (u32 i = 0; i < sizeof others / sizeof *others; i++) {
       if (twarp_strcmp(name, others[i]) == 0) return;
     }
-    twarp_stop("no option --%s: there are --lps, --end, --seed, --set NAME=VALUE, --data FILE, --finals yes, --records no", name);
+    twarp_stop("no option --%s: there are --lps, --end, --seed, --set NAME=VALUE, --data FILE, --finals, --records no", name);
   }
 }
 
@@ -557,6 +560,8 @@ static void twarp_read_words(int count, char **words) {
     if (equals != 0) {
       *equals = 0;
       twarp_take(name, equals + 1);
+    } else if (twarp_strcmp(name, "finals") == 0) {
+      twarp_run.finals = 1;
     } else {
       if (i + 1 == count) twarp_stop("%s has no value", word);
       twarp_take(name, words[++i]);
