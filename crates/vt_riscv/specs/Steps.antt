@@ -1,0 +1,221 @@
+-- What one instruction does, and a run of them.
+use Rattle.std.specs.Prelude.{ℕ, zero, suc, ◌+◌, ◌-◌, ◌/◌, ◌%◌, Bool, true, false, ◌||◌, not, nat_eq, nat_lt, nat_le, if◌then◌else◌, bit_and, bit_or, bit_xor, Option, Some, None, List, slice_index, slice_get, slice_set}
+use Rattle.std.specs.Int.{w32, w64, from_bool}
+use Rattle.vt_riscv.specs.declared.places.TheConstants.{IMAGE, DATA, STATE, STACK, RETURN}
+use Rattle.vt_riscv.specs.declared.memory.Size.{Size}
+use Rattle.vt_riscv.specs.declared.memory.Size.TheVariants.{Byte, Half, Word, Double}
+use Rattle.vt_riscv.specs.declared.instruction.Operation.{Operation}
+use Rattle.vt_riscv.specs.declared.instruction.Operation.TheVariants.{Bad, Lui, Auipc, Jal, Jalr, Beq, Bne, Blt, Bge, Bltu, Bgeu, Lb, Lh, Lw, Ld, Lbu, Lhu, Lwu, Sb, Sh, Sw, Sd, Addi, Slti, Sltiu, Xori, Ori, Andi, Slli, Srli, Srai, Add, Sub, Sll, Slt, Sltu, Xor, Srl, Sra, Or, And, Addiw, Slliw, Srliw, Sraiw, Addw, Subw, Sllw, Srlw, Sraw, Fence, Ecall, Ebreak, Mul, Mulh, Mulhsu, Mulhu, Div, Divu, Rem, Remu, Mulw, Divw, Divuw, Remw, Remuw}
+use Rattle.vt_riscv.specs.declared.instruction.Instruction.{Instruction}
+use Rattle.vt_riscv.specs.declared.code.Code.{Code}
+use Rattle.vt_riscv.specs.declared.machine.Machine.{Machine}
+use Rattle.vt_riscv.specs.declared.machine.Trap.{Trap}
+use Rattle.vt_riscv.specs.declared.machine.Trap.TheVariants.{BadJump, BadInstruction, BadPlace, Breakpoint}
+use Rattle.vt_riscv.specs.declared.machine.Stop.{Stop}
+use Rattle.vt_riscv.specs.declared.machine.Stop.TheVariants.{Called, Ended, Trapped, Spent}
+use Rattle.vt_riscv.specs.declared.machine.Outcome.{Outcome}
+use Rattle.vt_riscv.specs.Arithmetic.{low, sign_extended, sum, difference, sum_of_words, difference_of_words, left, right, right_signed, left_of_word, right_of_word, right_signed_of_word, less_signed, product, product_of_words, upper_signed, upper_mixed, upper_unsigned, quotient, rest, quotient_signed, rest_signed}
+use Rattle.vt_riscv.specs.Memory.{number_within, stored_within, extended}
+
+-- why the machine stops, if it does, and the machine then
+pub record Turn (N : ℕ) : Type 0 where
+  pub stop : Option Stop
+  pub machine : Machine N
+
+-- how a run came out, and the machine then
+pub record Ran (N : ℕ) : Type 0 where
+  pub outcome : Outcome
+  pub machine : Machine N
+
+-- 2.1 Programmers' Model for Base Integer ISA: the registers with another number in one. Register 0 is always 0
+abbrev pub with_register : List ℕ → ℕ → ℕ → List ℕ
+with_register registers r v = slice_set (slice_set registers (r % 32) v) 0 0
+
+-- 2.5 Control Transfer Instructions: what the place of an instruction is a multiple of: 4, or 2 with compressed instructions
+abbrev pub is_misaligned : Code → ℕ → Bool
+is_misaligned code place = not (nat_eq (place % (if code.compressed then 2 else 4)) 0)
+
+-- the instruction at a place, if one may stand there
+abbrev pub fetch_of : Code → ℕ → Option Instruction
+fetch_of code place =
+    if nat_lt place IMAGE || is_misaligned code place then None else slice_get code.instructions.items ((place - IMAGE) / 2)
+
+module _ {N : ℕ} where
+  abbrev pub goes_on : Machine N → Turn N
+  goes_on m = record { stop = None; machine = m }
+
+  abbrev pub stops : Stop → Machine N → Turn N
+  stops why m = record { stop = Some why; machine = m }
+
+  -- a trap changes nothing
+  abbrev pub trapped : Trap → Machine N → Turn N
+  trapped why m = stops (Trapped why) m
+
+  -- what a register holds
+  abbrev pub register_of : Machine N → ℕ → ℕ
+  register_of m r = slice_index m.registers (r % 32)
+
+  -- the place behind an instruction
+  abbrev pub behind : Machine N → Instruction → ℕ
+  behind m i = sum m.place i.length
+
+  -- the machine behind an instruction that put a number into a register
+  abbrev pub put_in : Machine N → Instruction → ℕ → Turn N
+  put_in m i v = goes_on (record m { registers = with_register m.registers i.destination v; place = behind m i })
+
+  -- the machine behind an instruction that changed nothing else
+  abbrev pub passed : Machine N → Instruction → Turn N
+  passed m i = goes_on (record m { place = behind m i })
+
+  -- 2.5 Unconditional Jumps: to a place, and the place behind the instruction is put into a register
+  abbrev pub jumped : Code → Machine N → Instruction → ℕ → Turn N
+  jumped code m i to =
+      if is_misaligned code to then trapped BadJump m
+      else goes_on (record m { registers = with_register m.registers i.destination (behind m i); place = to })
+
+  -- 2.5 Conditional Branches: to a place, if the branch is taken
+  abbrev pub branched : Code → Machine N → Instruction → Bool → Turn N
+  branched code m i true =
+      if is_misaligned code (sum m.place i.immediate) then trapped BadJump m
+      else goes_on (record m { place = sum m.place i.immediate })
+  branched code m i false = passed m i
+
+  -- 2.6 Load and Store Instructions: the place that an instruction speaks of
+  abbrev pub address : Machine N → Instruction → ℕ
+  address m i = sum (register_of m i.first) i.immediate
+
+  -- what lies at a place, if all of it lies in one part of memory
+  abbrev pub loaded_from : Code → Machine N → Size → ℕ → Option ℕ
+  loaded_from code m size at =
+      if nat_le STATE at then number_within size m.state (at - STATE)
+      else (if nat_le (STATE - STACK) at then number_within size m.stack (at - (STATE - STACK))
+      else (if nat_le DATA at then number_within size code.input.items (at - DATA)
+      else (if nat_le IMAGE at then number_within size code.image.items (at - IMAGE)
+      else None)))
+
+  -- a loaded number is put into a register
+  abbrev pub loaded_in : Machine N → Instruction → (ℕ → ℕ) → Option ℕ → Turn N
+  loaded_in m i how None = trapped BadPlace m
+  loaded_in m i how (Some v) = put_in m i (how v)
+
+  abbrev pub loaded : Code → Machine N → Instruction → Size → Turn N
+  loaded code m i size = loaded_in m i (λ (v : ℕ). v) (loaded_from code m size (address m i))
+
+  abbrev pub loaded_signed : Code → Machine N → Instruction → Size → Turn N
+  loaded_signed code m i size = loaded_in m i (extended size) (loaded_from code m size (address m i))
+
+  -- a number is put into the state or the stack. The rest of memory can't be written
+  abbrev pub state_put : Machine N → Instruction → Option (List ℕ) → Turn N
+  state_put m i None = trapped BadPlace m
+  state_put m i (Some bytes) = goes_on (record m { state = bytes; place = behind m i })
+
+  abbrev pub stack_put : Machine N → Instruction → Option (List ℕ) → Turn N
+  stack_put m i None = trapped BadPlace m
+  stack_put m i (Some bytes) = goes_on (record m { stack = bytes; place = behind m i })
+
+  abbrev pub stored_at : Machine N → Instruction → Size → ℕ → ℕ → Turn N
+  stored_at m i size at v =
+      if nat_le STATE at then state_put m i (stored_within size m.state (at - STATE) v)
+      else (if nat_le (STATE - STACK) at then stack_put m i (stored_within size m.stack (at - (STATE - STACK)) v)
+      else trapped BadPlace m)
+
+  abbrev pub stores : Machine N → Instruction → Size → Turn N
+  stores m i size = stored_at m i size (address m i) (register_of m i.second)
+
+  -- an instruction, by its operation
+  abbrev pub exec_of : Code → Machine N → Instruction → Operation → Turn N
+  exec_of code m i Bad = trapped BadInstruction m
+  -- 2.4 Integer Computational Instructions, and 5.2 of RV64I
+  exec_of code m i Addi = put_in m i (sum (register_of m i.first) i.immediate)
+  exec_of code m i Slti = put_in m i (from_bool (less_signed (register_of m i.first) i.immediate))
+  exec_of code m i Sltiu = put_in m i (from_bool (nat_lt (register_of m i.first) i.immediate))
+  exec_of code m i Xori = put_in m i (bit_xor (register_of m i.first) i.immediate)
+  exec_of code m i Ori = put_in m i (bit_or (register_of m i.first) i.immediate)
+  exec_of code m i Andi = put_in m i (bit_and (register_of m i.first) i.immediate)
+  exec_of code m i Slli = put_in m i (left (register_of m i.first) i.immediate)
+  exec_of code m i Srli = put_in m i (right (register_of m i.first) i.immediate)
+  exec_of code m i Srai = put_in m i (right_signed (register_of m i.first) i.immediate)
+  exec_of code m i Lui = put_in m i i.immediate
+  exec_of code m i Auipc = put_in m i (sum m.place i.immediate)
+  exec_of code m i Addiw = put_in m i (sum_of_words (register_of m i.first) i.immediate)
+  exec_of code m i Slliw = put_in m i (left_of_word (register_of m i.first) i.immediate)
+  exec_of code m i Srliw = put_in m i (right_of_word (register_of m i.first) i.immediate)
+  exec_of code m i Sraiw = put_in m i (right_signed_of_word (register_of m i.first) i.immediate)
+  exec_of code m i Add = put_in m i (sum (register_of m i.first) (register_of m i.second))
+  exec_of code m i Sub = put_in m i (difference (register_of m i.first) (register_of m i.second))
+  exec_of code m i Sll = put_in m i (left (register_of m i.first) (register_of m i.second))
+  exec_of code m i Slt = put_in m i (from_bool (less_signed (register_of m i.first) (register_of m i.second)))
+  exec_of code m i Sltu = put_in m i (from_bool (nat_lt (register_of m i.first) (register_of m i.second)))
+  exec_of code m i Xor = put_in m i (bit_xor (register_of m i.first) (register_of m i.second))
+  exec_of code m i Srl = put_in m i (right (register_of m i.first) (register_of m i.second))
+  exec_of code m i Sra = put_in m i (right_signed (register_of m i.first) (register_of m i.second))
+  exec_of code m i Or = put_in m i (bit_or (register_of m i.first) (register_of m i.second))
+  exec_of code m i And = put_in m i (bit_and (register_of m i.first) (register_of m i.second))
+  exec_of code m i Addw = put_in m i (sum_of_words (register_of m i.first) (register_of m i.second))
+  exec_of code m i Subw = put_in m i (difference_of_words (register_of m i.first) (register_of m i.second))
+  exec_of code m i Sllw = put_in m i (left_of_word (register_of m i.first) (register_of m i.second))
+  exec_of code m i Srlw = put_in m i (right_of_word (register_of m i.first) (register_of m i.second))
+  exec_of code m i Sraw = put_in m i (right_signed_of_word (register_of m i.first) (register_of m i.second))
+  -- 2.5 Control Transfer Instructions
+  exec_of code m i Jal = jumped code m i (sum m.place i.immediate)
+  exec_of code m i Jalr = jumped code m i (address m i - address m i % 2)
+  exec_of code m i Beq = branched code m i (nat_eq (register_of m i.first) (register_of m i.second))
+  exec_of code m i Bne = branched code m i (not (nat_eq (register_of m i.first) (register_of m i.second)))
+  exec_of code m i Blt = branched code m i (less_signed (register_of m i.first) (register_of m i.second))
+  exec_of code m i Bge = branched code m i (not (less_signed (register_of m i.first) (register_of m i.second)))
+  exec_of code m i Bltu = branched code m i (nat_lt (register_of m i.first) (register_of m i.second))
+  exec_of code m i Bgeu = branched code m i (not (nat_lt (register_of m i.first) (register_of m i.second)))
+  -- 2.6 Load and Store Instructions, and 5.3 of RV64I
+  exec_of code m i Lb = loaded_signed code m i Byte
+  exec_of code m i Lh = loaded_signed code m i Half
+  exec_of code m i Lw = loaded_signed code m i Word
+  exec_of code m i Ld = loaded code m i Double
+  exec_of code m i Lbu = loaded code m i Byte
+  exec_of code m i Lhu = loaded code m i Half
+  exec_of code m i Lwu = loaded code m i Word
+  exec_of code m i Sb = stores m i Byte
+  exec_of code m i Sh = stores m i Half
+  exec_of code m i Sw = stores m i Word
+  exec_of code m i Sd = stores m i Double
+  -- 2.7 Memory Ordering Instructions
+  exec_of code m i Fence = passed m i
+  -- 2.8 Environment Call and Breakpoints
+  exec_of code m i Ecall = stops Called m
+  exec_of code m i Ebreak = trapped Breakpoint m
+  -- 7.1 Multiplication Operations
+  exec_of code m i Mul = put_in m i (product (register_of m i.first) (register_of m i.second))
+  exec_of code m i Mulh = put_in m i (upper_signed (register_of m i.first) (register_of m i.second))
+  exec_of code m i Mulhsu = put_in m i (upper_mixed (register_of m i.first) (register_of m i.second))
+  exec_of code m i Mulhu = put_in m i (upper_unsigned (register_of m i.first) (register_of m i.second))
+  exec_of code m i Mulw = put_in m i (product_of_words (register_of m i.first) (register_of m i.second))
+  -- 7.2 Division Operations
+  exec_of code m i Div = put_in m i (quotient_signed w64 (register_of m i.first) (register_of m i.second))
+  exec_of code m i Divu = put_in m i (quotient w64 (register_of m i.first) (register_of m i.second))
+  exec_of code m i Rem = put_in m i (rest_signed w64 (register_of m i.first) (register_of m i.second))
+  exec_of code m i Remu = put_in m i (rest (register_of m i.first) (register_of m i.second))
+  exec_of code m i Divw = put_in m i (sign_extended (quotient_signed w32 (low (register_of m i.first)) (low (register_of m i.second))))
+  exec_of code m i Divuw = put_in m i (sign_extended (quotient w32 (low (register_of m i.first)) (low (register_of m i.second))))
+  exec_of code m i Remw = put_in m i (sign_extended (rest_signed w32 (low (register_of m i.first)) (low (register_of m i.second))))
+  exec_of code m i Remuw = put_in m i (sign_extended (rest (low (register_of m i.first)) (low (register_of m i.second))))
+
+  -- a step: the instruction at the machine's place. Where there is none, the program ends, if that is the place to end at
+  abbrev pub obeyed : Code → Machine N → Option Instruction → Turn N
+  obeyed code m (Some i) = exec_of code m i i.operation
+  obeyed code m None = if nat_eq m.place RETURN then stops Ended m else trapped BadJump m
+
+  abbrev pub step_of : Code → Machine N → Turn N
+  step_of code m = obeyed code m (fetch_of code m.place)
+
+  -- what follows a step: more, or nothing
+  abbrev pub followed : (Machine N → Ran N) → ℕ → Machine N → Option Stop → Ran N
+  followed more fuel m None = more m
+  followed more fuel m (Some why) = record { outcome = record { stop = why; left = fuel }; machine = m }
+
+  -- a run of at most so many steps. It has ended where it is at the place to end at, even if it can't make another step
+  unfoldable pub run_of : Code → ℕ → Machine N → Ran N
+  run_of code zero m = record { outcome = record { stop = if nat_eq m.place RETURN then Ended else Spent; left = 0 }; machine = m }
+  run_of code (suc fuel) m = followed (run_of code fuel) fuel (step_of code m).machine (step_of code m).stop
+
+  -- the machine behind the call that it stopped at, which was answered
+  abbrev pub answered : Machine N → ℕ → Machine N
+  answered m v = record m { registers = with_register m.registers 10 v; place = sum m.place 4 }

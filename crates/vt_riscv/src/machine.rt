@@ -1,0 +1,451 @@
+//! The machine, and what one instruction does to it.
+
+ghost use Rattle.std.specs.Prelude.{◌≡◌};
+ghost use Rattle.vt_riscv.specs.Steps.{is_misaligned, fetch_of, put_in, passed, jumped, branched, register_of, address, loaded_from, loaded, loaded_signed, stores, exec_of, step_of, run_of, answered};
+
+use crate::arithmetic::{
+    difference_of_words, left_of_word, less_signed, low, product_of_words, quotient,
+    quotient_of_words, quotient_signed, quotient_signed_of_words, rest, rest_of_words, rest_signed,
+    rest_signed_of_words, right_of_word, right_signed, right_signed_of_word, sign_extended,
+    sum_of_words, upper_mixed, upper_signed, upper_unsigned,
+};
+use crate::memory::{Size, extended, number_within, store, width};
+use crate::{Code, DATA, IMAGE, Instruction, Operation, RETURN, STACK, STATE};
+
+/// Why an instruction can't be done. The machine is as before it, at its place.
+#[derive(Debug, Clone, Copy, PartialEq, Eq)]
+pub enum Trap {
+    /// It jumps to a place at which no instruction may begin, or there is no instruction at the machine's place.
+    BadJump,
+    /// It isn't an instruction.
+    BadInstruction,
+    /// It reads or writes what isn't memory, or writes what is only read. All of a number lies in one part of memory.
+    BadPlace,
+    /// It is EBREAK.
+    Breakpoint,
+}
+
+/// Why a run stops.
+#[derive(Debug, Clone, Copy, PartialEq, Eq)]
+pub enum Stop {
+    /// The instruction is ECALL. The machine is as before it, at its place: [`Machine::answer`] goes on behind it.
+    Called,
+    /// The program came to `RETURN`.
+    Ended,
+    /// The instruction can't be done.
+    Trapped(Trap),
+    /// All steps are made.
+    Spent,
+}
+
+/// How a run came out.
+#[derive(Debug, Clone, Copy, PartialEq, Eq)]
+pub struct Outcome {
+    /// Why it stopped.
+    pub stop: Stop,
+    /// How many steps it may still make. The step that it stopped at counts as made.
+    pub left: u64,
+}
+
+/// A machine, with a state of `N` bytes.
+#[derive(Clone, Copy)]
+pub struct Machine<const N: usize> {
+    /// The place of the next instruction.
+    pub place: u64,
+    /// The registers x0 to x31. The first stays 0.
+    pub registers: [u64; 32],
+    /// The bytes from `STATE` on.
+    pub state: [u8; N],
+    /// The bytes right below `STATE`.
+    pub stack: [u8; STACK],
+}
+
+// Whether no instruction may begin at a place.
+#[inline]
+fn is_misaligned(code: &Code, place: u64) -> bool
+    ensures { result ≡ is_misaligned code.now place }
+{
+    place % (if code.compressed { 2 } else { 4 }) != 0
+}
+
+// The instruction at a place, if one may stand there.
+#[inline]
+fn fetch(code: &Code, place: u64) -> Option<Instruction>
+    ensures { result ≡ fetch_of code.now place }
+{
+    if place < IMAGE || is_misaligned(code, place) {
+        return None;
+    }
+    code.instructions
+        .get(((place - IMAGE) / 2) as usize)
+        .copied()
+}
+
+impl<const N: usize> Machine<N> {
+    #[inline]
+    fn register(&self, r: u8) -> u64
+        ensures { result ≡ register_of self.now r }
+    {
+        self.registers[(r % 32) as usize]
+    }
+
+    // Puts a number into the register of an instruction's result, and goes on behind it.
+    #[inline]
+    fn put(&mut self, i: Instruction, v: u64) -> Option<Stop>
+        ensures stop { result ≡ (put_in self.old i v).stop }
+        ensures machine { self.new ≡ (put_in self.old i v).machine }
+    {
+        self.registers[(i.destination % 32) as usize] = v;
+        self.registers[0] = 0;
+        self.pass(i)
+    }
+
+    // Goes on behind an instruction.
+    #[inline]
+    fn pass(&mut self, i: Instruction) -> Option<Stop>
+        ensures stop { result ≡ (passed self.old i).stop }
+        ensures machine { self.new ≡ (passed self.old i).machine }
+    {
+        self.place = self.place.wrapping_add(u64::from(i.length));
+        None
+    }
+
+    // Goes on at another place, and puts the place behind the instruction into a register.
+    #[inline]
+    fn jump(&mut self, code: &Code, i: Instruction, to: u64) -> Option<Stop>
+        ensures stop { result ≡ (jumped code.now self.old i to).stop }
+        ensures machine { self.new ≡ (jumped code.now self.old i to).machine }
+    {
+        if is_misaligned(code, to) {
+            return Some(Stop::Trapped(Trap::BadJump));
+        }
+        self.registers[(i.destination % 32) as usize] = self
+            .place
+            .wrapping_add(u64::from(i.length));
+        self.registers[0] = 0;
+        self.place = to;
+        None
+    }
+
+    // Goes on at another place, if the branch is taken.
+    #[inline]
+    fn branch(&mut self, code: &Code, i: Instruction, taken: bool) -> Option<Stop>
+        ensures stop { result ≡ (branched code.now self.old i taken).stop }
+        ensures machine { self.new ≡ (branched code.now self.old i taken).machine }
+    {
+        if !taken {
+            return self.pass(i);
+        }
+        let to = self.place.wrapping_add(i.immediate);
+        if is_misaligned(code, to) {
+            return Some(Stop::Trapped(Trap::BadJump));
+        }
+        self.place = to;
+        None
+    }
+
+    // The place that a load or a store speaks of.
+    #[inline]
+    fn address(&self, i: Instruction) -> u64
+        ensures { result ≡ address self.now i }
+    {
+        self.register(i.first).wrapping_add(i.immediate)
+    }
+
+    // What lies at a place, if all of it lies in one part of memory.
+    #[inline]
+    fn load_from(&self, code: &Code, size: Size, at: u64) -> Option<u64>
+        ensures { result ≡ loaded_from code.now self.now size at }
+    {
+        if at >= STATE {
+            number_within(&self.state, at - STATE, size)
+        } else if at >= STATE - STACK as u64 {
+            number_within(&self.stack, at - (STATE - STACK as u64), size)
+        } else if at >= DATA {
+            number_within(code.input.as_slice(), at - DATA, size)
+        } else if at >= IMAGE {
+            number_within(code.image.as_slice(), at - IMAGE, size)
+        } else {
+            None
+        }
+    }
+
+    // Puts a number from memory into a register.
+    #[inline]
+    fn load(&mut self, code: &Code, i: Instruction, size: Size) -> Option<Stop>
+        ensures stop { result ≡ (loaded code.now self.old i size).stop }
+        ensures machine { self.new ≡ (loaded code.now self.old i size).machine }
+    {
+        match self.load_from(code, size, self.address(i)) {
+            Some(v) => self.put(i, v),
+            None => Some(Stop::Trapped(Trap::BadPlace)),
+        }
+    }
+
+    // The same of a number with a sign.
+    #[inline]
+    fn load_signed(&mut self, code: &Code, i: Instruction, size: Size) -> Option<Stop>
+        ensures stop { result ≡ (loaded_signed code.now self.old i size).stop }
+        ensures machine { self.new ≡ (loaded_signed code.now self.old i size).machine }
+    {
+        match self.load_from(code, size, self.address(i)) {
+            Some(v) => self.put(i, extended(size, v)),
+            None => Some(Stop::Trapped(Trap::BadPlace)),
+        }
+    }
+
+    // Puts a number from a register into memory.
+    #[inline]
+    fn store(&mut self, i: Instruction, size: Size) -> Option<Stop>
+        ensures stop { result ≡ (stores self.old i size).stop }
+        ensures machine { self.new ≡ (stores self.old i size).machine }
+    {
+        let at = self.address(i);
+        let v = self.register(i.second);
+        if at >= STATE {
+            if at - STATE > N as u64 || width(size) > N as u64 - (at - STATE) {
+                return Some(Stop::Trapped(Trap::BadPlace));
+            }
+            store(&mut self.state, (at - STATE) as usize, size, v);
+            return self.pass(i);
+        }
+        let base = STATE - STACK as u64;
+        if at < base || width(size) > STATE - at {
+            return Some(Stop::Trapped(Trap::BadPlace));
+        }
+        store(&mut self.stack, (at - base) as usize, size, v);
+        self.pass(i)
+    }
+
+    // An instruction.
+    #[inline]
+    fn exec(&mut self, code: &Code, i: Instruction) -> Option<Stop>
+        ensures stop { result ≡ (exec_of code.now self.old i i.operation).stop }
+        ensures machine { self.new ≡ (exec_of code.now self.old i i.operation).machine }
+    {
+        match i.operation {
+            Operation::Bad => Some(Stop::Trapped(Trap::BadInstruction)),
+            Operation::Lui => self.put(i, i.immediate),
+            Operation::Auipc => self.put(i, self.place.wrapping_add(i.immediate)),
+            Operation::Jal => self.jump(code, i, self.place.wrapping_add(i.immediate)),
+            Operation::Jalr => self.jump(code, i, self.address(i) - self.address(i) % 2),
+            Operation::Beq => self.branch(
+                code,
+                i,
+                self.register(i.first) == self.register(i.second),
+            ),
+            Operation::Bne => self.branch(
+                code,
+                i,
+                self.register(i.first) != self.register(i.second),
+            ),
+            Operation::Blt => self.branch(
+                code,
+                i,
+                less_signed(self.register(i.first), self.register(i.second)),
+            ),
+            Operation::Bge => self.branch(
+                code,
+                i,
+                !less_signed(self.register(i.first), self.register(i.second)),
+            ),
+            Operation::Bltu => self.branch(
+                code,
+                i,
+                self.register(i.first) < self.register(i.second),
+            ),
+            Operation::Bgeu => self.branch(
+                code,
+                i,
+                self.register(i.first) >= self.register(i.second),
+            ),
+            Operation::Lb => self.load_signed(code, i, Size::Byte),
+            Operation::Lh => self.load_signed(code, i, Size::Half),
+            Operation::Lw => self.load_signed(code, i, Size::Word),
+            Operation::Ld => self.load(code, i, Size::Double),
+            Operation::Lbu => self.load(code, i, Size::Byte),
+            Operation::Lhu => self.load(code, i, Size::Half),
+            Operation::Lwu => self.load(code, i, Size::Word),
+            Operation::Sb => self.store(i, Size::Byte),
+            Operation::Sh => self.store(i, Size::Half),
+            Operation::Sw => self.store(i, Size::Word),
+            Operation::Sd => self.store(i, Size::Double),
+            Operation::Addi => self.put(i, self.register(i.first).wrapping_add(i.immediate)),
+            Operation::Slti => self.put(
+                i,
+                u64::from(less_signed(self.register(i.first), i.immediate)),
+            ),
+            Operation::Sltiu => self.put(i, u64::from(self.register(i.first) < i.immediate)),
+            Operation::Xori => self.put(i, self.register(i.first) ^ i.immediate),
+            Operation::Ori => self.put(i, self.register(i.first) | i.immediate),
+            Operation::Andi => self.put(i, self.register(i.first) & i.immediate),
+            Operation::Slli => self.put(i, self.register(i.first) << (i.immediate % 64)),
+            Operation::Srli => self.put(i, self.register(i.first) >> (i.immediate % 64)),
+            Operation::Srai => self.put(i, right_signed(self.register(i.first), i.immediate)),
+            Operation::Add => self.put(
+                i,
+                self.register(i.first).wrapping_add(self.register(i.second)),
+            ),
+            Operation::Sub => self.put(
+                i,
+                self.register(i.first).wrapping_sub(self.register(i.second)),
+            ),
+            Operation::Sll => self.put(i, self.register(i.first) << (self.register(i.second) % 64)),
+            Operation::Slt => self.put(
+                i,
+                u64::from(less_signed(self.register(i.first), self.register(i.second))),
+            ),
+            Operation::Sltu => self.put(
+                i,
+                u64::from(self.register(i.first) < self.register(i.second)),
+            ),
+            Operation::Xor => self.put(i, self.register(i.first) ^ self.register(i.second)),
+            Operation::Srl => self.put(i, self.register(i.first) >> (self.register(i.second) % 64)),
+            Operation::Sra => self.put(
+                i,
+                right_signed(self.register(i.first), self.register(i.second)),
+            ),
+            Operation::Or => self.put(i, self.register(i.first) | self.register(i.second)),
+            Operation::And => self.put(i, self.register(i.first) & self.register(i.second)),
+            Operation::Addiw => self.put(i, sum_of_words(self.register(i.first), i.immediate)),
+            Operation::Slliw => self.put(i, left_of_word(self.register(i.first), i.immediate)),
+            Operation::Srliw => self.put(i, right_of_word(self.register(i.first), i.immediate)),
+            Operation::Sraiw => self.put(
+                i,
+                right_signed_of_word(self.register(i.first), i.immediate),
+            ),
+            Operation::Addw => self.put(
+                i,
+                sum_of_words(self.register(i.first), self.register(i.second)),
+            ),
+            Operation::Subw => self.put(
+                i,
+                difference_of_words(self.register(i.first), self.register(i.second)),
+            ),
+            Operation::Sllw => self.put(
+                i,
+                left_of_word(self.register(i.first), self.register(i.second)),
+            ),
+            Operation::Srlw => self.put(
+                i,
+                right_of_word(self.register(i.first), self.register(i.second)),
+            ),
+            Operation::Sraw => self.put(
+                i,
+                right_signed_of_word(self.register(i.first), self.register(i.second)),
+            ),
+            Operation::Fence => self.pass(i),
+            Operation::Ecall => Some(Stop::Called),
+            Operation::Ebreak => Some(Stop::Trapped(Trap::Breakpoint)),
+            Operation::Mul => self.put(
+                i,
+                self.register(i.first).wrapping_mul(self.register(i.second)),
+            ),
+            Operation::Mulh => self.put(
+                i,
+                upper_signed(self.register(i.first), self.register(i.second)),
+            ),
+            Operation::Mulhsu => self.put(
+                i,
+                upper_mixed(self.register(i.first), self.register(i.second)),
+            ),
+            Operation::Mulhu => self.put(
+                i,
+                upper_unsigned(self.register(i.first), self.register(i.second)),
+            ),
+            Operation::Div => self.put(
+                i,
+                quotient_signed(self.register(i.first), self.register(i.second)),
+            ),
+            Operation::Divu => self.put(
+                i,
+                quotient(self.register(i.first), self.register(i.second)),
+            ),
+            Operation::Rem => self.put(
+                i,
+                rest_signed(self.register(i.first), self.register(i.second)),
+            ),
+            Operation::Remu => self.put(i, rest(self.register(i.first), self.register(i.second))),
+            Operation::Mulw => self.put(
+                i,
+                product_of_words(self.register(i.first), self.register(i.second)),
+            ),
+            Operation::Divw => self.put(
+                i,
+                sign_extended(quotient_signed_of_words(
+                    low(self.register(i.first)),
+                    low(self.register(i.second)),
+                )),
+            ),
+            Operation::Divuw => self.put(
+                i,
+                sign_extended(quotient_of_words(
+                    low(self.register(i.first)),
+                    low(self.register(i.second)),
+                )),
+            ),
+            Operation::Remw => self.put(
+                i,
+                sign_extended(rest_signed_of_words(
+                    low(self.register(i.first)),
+                    low(self.register(i.second)),
+                )),
+            ),
+            Operation::Remuw => self.put(
+                i,
+                sign_extended(rest_of_words(
+                    low(self.register(i.first)),
+                    low(self.register(i.second)),
+                )),
+            ),
+        }
+    }
+
+    // The instruction at the machine's place, or the end.
+    #[inline]
+    fn step(&mut self, code: &Code) -> Option<Stop>
+        ensures stop { result ≡ (step_of code.now self.old).stop }
+        ensures machine { self.new ≡ (step_of code.now self.old).machine }
+    {
+        match fetch(code, self.place) {
+            Some(i) => self.exec(code, i),
+            None => {
+                if self.place == RETURN {
+                    Some(Stop::Ended)
+                } else {
+                    Some(Stop::Trapped(Trap::BadJump))
+                }
+            }
+        }
+    }
+
+    /// Makes at most `fuel` steps, each of one instruction, and stops earlier at a call, at the end, or where an instruction can't be
+    /// done. At `RETURN` it has ended, even if no step is left.
+    pub fn run(&mut self, code: &Code, fuel: u64) -> Outcome
+        ensures outcome { result ≡ (run_of code.now fuel self.old).outcome }
+        ensures machine { self.new ≡ (run_of code.now fuel self.old).machine }
+    {
+        let mut left = fuel;
+        'steps: while left > 0 {
+            left -= 1;
+            if let Some(stop) = self.step(code) {
+                return Outcome { stop, left };
+            }
+        }
+        let stop = if self.place == RETURN {
+            Stop::Ended
+        } else {
+            Stop::Spent
+        };
+        Outcome { stop, left: 0 }
+    }
+
+    /// Answers the call at which the machine stopped: puts the value into register a0 (x10), and goes on behind the ECALL.
+    pub fn answer(&mut self, value: u64)
+        ensures { self.new ≡ answered self.old value }
+    {
+        self.registers[10] = value;
+        self.registers[0] = 0;
+        self.place = self.place.wrapping_add(4);
+    }
+}

@@ -1,0 +1,96 @@
+//! Numbers in memory.
+
+ghost use Rattle.std.specs.Prelude.{◌≡◌, ◌+◌, ◌≤◌, length};
+ghost use Rattle.vt_riscv.specs.Memory.{width, number_at, number_within, stored, extended};
+
+/// How many bytes a number has in memory.
+#[derive(Clone, Copy)]
+pub(crate) enum Size {
+    Byte,
+    Half,
+    Word,
+    Double,
+}
+
+/// How many bytes these are.
+#[inline]
+pub(crate) fn width(size: Size) -> u64
+    ensures { result ≡ width size }
+{
+    match size {
+        Size::Byte => 1,
+        Size::Half => 2,
+        Size::Word => 4,
+        Size::Double => 8,
+    }
+}
+
+/// The number that lies at a place, its low byte first.
+#[inline]
+fn number(bytes: &[u8], at: usize, size: Size) -> u64
+    requires { at + width size ≤ length bytes.now }
+    ensures { result ≡ number_at size bytes.now at }
+{
+    match size {
+        Size::Byte => u64::from(bytes[at]),
+        Size::Half => u64::from(u16::from_le_bytes([bytes[at], bytes[at + 1]])),
+        Size::Word => u64::from(u32::from_le_bytes([
+            bytes[at],
+            bytes[at + 1],
+            bytes[at + 2],
+            bytes[at + 3],
+        ])),
+        Size::Double => u64::from_le_bytes([
+            bytes[at],
+            bytes[at + 1],
+            bytes[at + 2],
+            bytes[at + 3],
+            bytes[at + 4],
+            bytes[at + 5],
+            bytes[at + 6],
+            bytes[at + 7],
+        ]),
+    }
+}
+
+/// The number that lies at a place, if all of it does.
+#[inline]
+pub(crate) fn number_within(bytes: &[u8], at: u64, size: Size) -> Option<u64>
+    ensures { result ≡ number_within size bytes.now at }
+{
+    let len = bytes.len() as u64;
+    if at <= len && width(size) <= len - at {
+        Some(number(bytes, at as usize, size))
+    } else {
+        None
+    }
+}
+
+/// Puts a number at a place, its low byte first.
+#[inline]
+pub(crate) fn store(bytes: &mut [u8], at: usize, size: Size, v: u64)
+    requires { at + width size ≤ length bytes.old }
+    ensures { bytes.new ≡ stored size bytes.old at v }
+{
+    match size {
+        Size::Byte => bytes[at] = (v % 0x100) as u8,
+        Size::Half => bytes[at..at + 2].copy_from_slice(&((v % 0x1_0000) as u16).to_le_bytes()),
+        Size::Word => bytes[at..at + 4].copy_from_slice(
+            &((v % 0x1_0000_0000) as u32).to_le_bytes(),
+        ),
+        Size::Double => bytes[at..at + 8].copy_from_slice(&v.to_le_bytes()),
+    }
+}
+
+/// A number from memory as 64 bits, by its sign.
+#[inline]
+pub(crate) fn extended(size: Size, v: u64) -> u64
+    ensures { result ≡ extended size v }
+{
+    match size {
+        Size::Byte => i64::from(((v % 0x100) as u8).cast_signed()).cast_unsigned(),
+        Size::Half => i64::from(((v % 0x1_0000) as u16).cast_signed()).cast_unsigned(),
+        Size::Word => i64::from(((v % 0x1_0000_0000) as u32).cast_signed()).cast_unsigned(),
+        Size::Double => v,
+    }
+}

@@ -1,0 +1,16 @@
+//! Where things lie.
+
+/// Where the image lies: code first, then constants.
+pub const IMAGE: u64 = 0x1_0000;
+
+/// Where the data lie, which a program reads besides its image.
+pub const DATA: u64 = 0x2000_0000;
+
+/// Where the state lies. The stack ends here.
+pub const STATE: u64 = 0x4000_0000;
+
+/// How many bytes the stack has.
+pub const STACK: usize = 1_024;
+
+/// The place at which a program ends. No memory is there.
+pub const RETURN: u64 = 0xffff_fffc;
