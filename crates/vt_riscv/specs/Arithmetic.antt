@@ -1,5 +1,5 @@
 -- What instructions compute of 64-bit numbers: chapters 2, 5 and 7 of the manual.
-use Rattle.std.specs.Prelude.{ℕ, ◌+◌, ◌-◌, ◌*◌, ◌/◌, ◌%◌, ◌^◌, Bool, not, nat_eq, nat_lt, int_lt, int_rem, if◌then◌else◌}
+use Rattle.std.specs.Prelude.{ℕ, ◌+◌, ◌-◌, ◌*◌, ◌/◌, ◌%◌, ◌^◌, Bool, nat_eq, int_lt, int_rem, if◌then◌else◌}
 use Rattle.std.specs.Int.{Width, w32, w64, w128, bit_not, cast_signed, cast_unsigned, int_shr, int_wrapping_div}
 
 -- the low 32 bits

@@ -1,6 +1,6 @@
 -- Instructions from words of 32 bits, as chapter 24 of the manual (Instruction Set Listings) lays them out. What stands in no row of
 -- its tables for RV64I and RV64M is `Bad`.
-use Rattle.std.specs.Prelude.{ℕ, ◌+◌, ◌-◌, ◌*◌, ◌/◌, ◌%◌, ◌^◌, Bool, nat_eq, nat_lt, if◌then◌else◌}
+use Rattle.std.specs.Prelude.{ℕ, ◌+◌, ◌-◌, ◌*◌, ◌/◌, ◌%◌, ◌^◌, nat_eq, nat_lt, if◌then◌else◌}
 use Rattle.vt_riscv.specs.declared.instruction.Operation.{Operation}
 use Rattle.vt_riscv.specs.declared.instruction.Operation.TheVariants.{Bad, Lui, Auipc, Jal, Jalr, Beq, Bne, Blt, Bge, Bltu, Bgeu, Lb, Lh, Lw, Ld, Lbu, Lhu, Lwu, Sb, Sh, Sw, Sd, Addi, Slti, Sltiu, Xori, Ori, Andi, Slli, Srli, Srai, Add, Sub, Sll, Slt, Sltu, Xor, Srl, Sra, Or, And, Addiw, Slliw, Srliw, Sraiw, Addw, Subw, Sllw, Srlw, Sraw, Fence, Ecall, Ebreak, Mul, Mulh, Mulhsu, Mulhu, Div, Divu, Rem, Remu, Mulw, Divw, Divuw, Remw, Remuw}
 use Rattle.vt_riscv.specs.declared.instruction.Instruction.{Instruction}
@@ -157,5 +157,5 @@ by_opcode w n =
     else (if nat_eq n 0x73 then plain (system_of w)
     else plain Bad))))))))))))
 
-abbrev pub decode_of : ℕ → Instruction
+unfoldable pub decode_of : ℕ → Instruction
 decode_of w = by_opcode w (w % 2 ^ 7)

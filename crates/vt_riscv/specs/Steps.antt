@@ -1,5 +1,5 @@
 -- What one instruction does, and a run of them.
-use Rattle.std.specs.Prelude.{ℕ, zero, suc, ◌+◌, ◌-◌, ◌/◌, ◌%◌, Bool, true, false, ◌||◌, not, nat_eq, nat_lt, nat_le, if◌then◌else◌, bit_and, bit_or, bit_xor, Option, Some, None, List, slice_index, slice_get, slice_set}
+use Rattle.std.specs.Prelude.{ℕ, zero, suc, ◌-◌, ◌/◌, ◌%◌, Bool, true, false, ◌||◌, not, nat_eq, nat_lt, nat_le, if◌then◌else◌, bit_and, bit_or, bit_xor, Option, Some, None, List, slice_index, slice_get, slice_set}
 use Rattle.std.specs.Int.{w32, w64, from_bool}
 use Rattle.vt_riscv.specs.declared.places.TheConstants.{IMAGE, DATA, STATE, STACK, RETURN}
 use Rattle.vt_riscv.specs.declared.memory.Size.{Size}

@@ -1,9 +1,11 @@
 //! What a program is to the machine.
 
-ghost use Rattle.std.specs.Prelude.{◌≡◌, IfOk, take};
-ghost use Rattle.vt_riscv.specs.Codes.{instructions_of};
+ghost use Rattle.std.specs.Prelude.{◌≡◌, ◌+◌, ◌≤◌, length, IfOk, take};
+ghost use Rattle.vt_riscv.specs.Codes.{long_at, short_of, instruction_with, instruction_at, instructions_of};
 
-use crate::Instruction;
+use crate::decoding::plain;
+use crate::memory::{half, word};
+use crate::{Instruction, Operation, decode, decode_compressed};
 use std::alloc::{AllocError, Global};
 use std::vec::Vec;
 
@@ -34,7 +36,7 @@ impl Code {
         ensures input { IfOk result (λ code. code.input ≡ input) }
         ensures compressed { IfOk result (λ code. code.compressed ≡ compressed) }
     {
-        let instructions = Vec::new(alloc);
+        let instructions = instructions(alloc, image.get(..length).unwrap_or(&image), compressed)?;
         Ok(Code {
             instructions,
             image,
@@ -42,4 +44,65 @@ impl Code {
             compressed,
         })
     }
+}
+
+// The instruction of 32 bits at a place.
+fn long_at(bytes: &[u8], at: usize) -> Instruction
+    requires { at + 2 ≤ length bytes.now }
+    ensures { result ≡ long_at bytes.now at }
+{
+    if at + 4 <= bytes.len() {
+        decode(word(bytes, at))
+    } else {
+        plain(Operation::Bad)
+    }
+}
+
+// The instruction of 16 bits, where there may be any.
+fn short(half: u16, compressed: bool) -> Instruction
+    ensures { result ≡ short_of compressed half }
+{
+    if compressed {
+        decode_compressed(half)
+    } else {
+        plain(Operation::Bad)
+    }
+}
+
+// The instruction at a place, by its first 16 bits.
+fn instruction_with(bytes: &[u8], at: usize, half: u16, compressed: bool) -> Instruction
+    requires { at + 2 ≤ length bytes.now }
+    ensures { result ≡ instruction_with compressed bytes.now at half }
+{
+    if half % 4 == 3 {
+        long_at(bytes, at)
+    } else {
+        short(half, compressed)
+    }
+}
+
+// The instruction at a place of a code.
+fn instruction_at(bytes: &[u8], at: usize, compressed: bool) -> Instruction
+    requires { at + 2 ≤ length bytes.now }
+    ensures { result ≡ instruction_at compressed bytes.now at }
+{
+    instruction_with(bytes, at, half(bytes, at), compressed)
+}
+
+// The instruction at each even place of a code.
+fn instructions(
+    alloc: Global,
+    bytes: &[u8],
+    compressed: bool,
+) -> Result<Vec<Instruction>, AllocError>
+    ensures { IfOk result (λ list. list.items ≡ instructions_of compressed bytes.now) }
+{
+    let count = bytes.len() / 2;
+    let mut list = Vec::new(alloc);
+    let mut place = 0;
+    'places: while place < count {
+        list.push(instruction_at(bytes, 2 * place, compressed))?;
+        place += 1;
+    }
+    Ok(list)
 }

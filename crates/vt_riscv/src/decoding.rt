@@ -356,6 +356,7 @@ fn system(w: u32) -> Operation
 
 /// The instruction that a word stands for. Its operation is `Bad` where the word stands for none of RV64I and M: then the other
 /// fields mean nothing.
+#[tactic(auto, unfolding(crate::specs::Decoding::decode_of))]
 pub fn decode(word: u32) -> Instruction
     ensures { result ≡ decode_of word }
 {

@@ -1,6 +1,7 @@
 //! Numbers in memory.
 
 ghost use Rattle.std.specs.Prelude.{◌≡◌, ◌+◌, ◌≤◌, length};
+ghost use Rattle.vt_riscv.specs.declared.memory.Size.TheVariants.{Half, Word};
 ghost use Rattle.vt_riscv.specs.Memory.{width, number_at, number_within, stored, extended};
 
 /// How many bytes a number has in memory.
@@ -25,6 +26,24 @@ pub(crate) fn width(size: Size) -> u64
     }
 }
 
+/// The number of 16 bits that lies at a place, its low byte first.
+#[inline]
+pub(crate) fn half(bytes: &[u8], at: usize) -> u16
+    requires { at + 2 ≤ length bytes.now }
+    ensures { result ≡ number_at Half bytes.now at }
+{
+    u16::from_le_bytes([bytes[at], bytes[at + 1]])
+}
+
+/// The number of 32 bits that lies at a place, its low byte first.
+#[inline]
+pub(crate) fn word(bytes: &[u8], at: usize) -> u32
+    requires { at + 4 ≤ length bytes.now }
+    ensures { result ≡ number_at Word bytes.now at }
+{
+    u32::from_le_bytes([bytes[at], bytes[at + 1], bytes[at + 2], bytes[at + 3]])
+}
+
 /// The number that lies at a place, its low byte first.
 #[inline]
 fn number(bytes: &[u8], at: usize, size: Size) -> u64
@@ -33,13 +52,8 @@ fn number(bytes: &[u8], at: usize, size: Size) -> u64
 {
     match size {
         Size::Byte => u64::from(bytes[at]),
-        Size::Half => u64::from(u16::from_le_bytes([bytes[at], bytes[at + 1]])),
-        Size::Word => u64::from(u32::from_le_bytes([
-            bytes[at],
-            bytes[at + 1],
-            bytes[at + 2],
-            bytes[at + 3],
-        ])),
+        Size::Half => u64::from(half(bytes, at)),
+        Size::Word => u64::from(word(bytes, at)),
         Size::Double => u64::from_le_bytes([
             bytes[at],
             bytes[at + 1],

@@ -1,0 +1,14 @@
+use Rattle.std.proofs.Common.{◌≡◌, ℕ, ◌*◌, ◌-◌, ◌≤◌, ◌/◌, length, map}
+use Rattle.std.specs.List.{range_with_len}
+use Rattle.vt_riscv.specs.Codes.{instruction_at}
+use Rattle.vt_riscv.proofs.code.instructions.Given as goal
+
+abbrev pub invariant-places : goal.invariant-places
+invariant-places l = record {
+  count : l.count ≡ length l.bytes / 2;
+  within : l.place ≤ l.count;
+  list : l.list.items ≡ map (λ (k : ℕ). instruction_at l.compressed l.bytes (2 * k)) (range_with_len 0 l.place);
+}
+
+abbrev pub decreases-places : goal.decreases-places
+decreases-places l = l.count - l.place

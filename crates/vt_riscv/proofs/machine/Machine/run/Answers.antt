@@ -1,0 +1,44 @@
+use Rattle.std.proofs.Common.{rules, ◌≡◌, suc, ◌-◌, ◌∙◌, Bool, true, false, sym, ap, arith, if◌then◌else◌}
+use Rattle.vt_riscv.specs.declared.machine.Stop.TheVariants.{Ended, Spent}
+use Rattle.vt_riscv.specs.Steps.{Ran}
+use Rattle.vt_riscv.proofs.RunLemmas.{run-on, run-stop, run-none}
+use Rattle.vt_riscv.proofs.machine.Machine.run.Goals as goal
+
+pub returns-in-Some-clause-outcome : goal.returns-in-Some-clause-outcome
+returns-in-Some-clause-outcome g c =
+    let more : c.steps.left ≡ suc (c.steps.left - 1) = omega arith in
+    let whole = sym c.steps.invariant ∙ run-stop c.args.code.now c.steps.left (c.steps.left - 1) c.steps.self c.step.new.self c.step.result c.in-Some.stop more c.step.ensures.stop c.step.ensures.machine c.in-Some.is in
+    sym (ap (λ (t : Ran _). t.outcome) whole)
+
+pub returns-in-Some-clause-machine : goal.returns-in-Some-clause-machine
+returns-in-Some-clause-machine g c =
+    let more : c.steps.left ≡ suc (c.steps.left - 1) = omega arith in
+    let whole = sym c.steps.invariant ∙ run-stop c.args.code.now c.steps.left (c.steps.left - 1) c.steps.self c.step.new.self c.step.result c.in-Some.stop more c.step.ensures.stop c.step.ensures.machine c.in-Some.is in
+    sym (ap (λ (t : Ran _). t.machine) whole)
+
+pub steps-preserved : goal.steps-preserved
+steps-preserved g c =
+    let more : c.steps.left ≡ suc (c.steps.left - 1) = omega arith in
+    sym (run-on c.args.code.now c.steps.left (c.steps.left - 1) c.steps.self c.step.new.self c.step.result more c.step.ensures.stop c.step.ensures.machine c.in_default.is) ∙ c.steps.invariant
+
+pub returns-then-self-eq-RETURN-clause-outcome : goal.returns-then-self-eq-RETURN-clause-outcome
+returns-then-self-eq-RETURN-clause-outcome g c =
+    let none : c.steps.left ≡ 0 = omega arith in
+    let whole = sym c.steps.invariant ∙ run-none c.args.code.now c.steps.left c.steps.self none in
+    sym (ap (λ (t : Ran _). t.outcome) whole ∙ ap (λ (b : Bool). record { stop = if b then Ended else Spent; left = 0 }) {y = true} (search rules))
+
+pub returns-then-self-eq-RETURN-clause-machine : goal.returns-then-self-eq-RETURN-clause-machine
+returns-then-self-eq-RETURN-clause-machine g c =
+    let none : c.steps.left ≡ 0 = omega arith in
+    sym (ap (λ (t : Ran _). t.machine) (sym c.steps.invariant ∙ run-none c.args.code.now c.steps.left c.steps.self none))
+
+pub returns-else-self-eq-RETURN-clause-outcome : goal.returns-else-self-eq-RETURN-clause-outcome
+returns-else-self-eq-RETURN-clause-outcome g c =
+    let none : c.steps.left ≡ 0 = omega arith in
+    let whole = sym c.steps.invariant ∙ run-none c.args.code.now c.steps.left c.steps.self none in
+    sym (ap (λ (t : Ran _). t.outcome) whole ∙ ap (λ (b : Bool). record { stop = if b then Ended else Spent; left = 0 }) {y = false} (search rules))
+
+pub returns-else-self-eq-RETURN-clause-machine : goal.returns-else-self-eq-RETURN-clause-machine
+returns-else-self-eq-RETURN-clause-machine g c =
+    let none : c.steps.left ≡ 0 = omega arith in
+    sym (ap (λ (t : Ran _). t.machine) (sym c.steps.invariant ∙ run-none c.args.code.now c.steps.left c.steps.self none))
