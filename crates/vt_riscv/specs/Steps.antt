@@ -1,6 +1,6 @@
 -- What one instruction does, and a run of them.
 use Rattle.std.specs.Prelude.{ℕ, zero, suc, ◌-◌, ◌/◌, ◌%◌, Bool, true, false, ◌||◌, not, nat_eq, nat_lt, nat_le, if◌then◌else◌, bit_and, bit_or, bit_xor, Option, Some, None, List, slice_index, slice_get, slice_set}
-use Rattle.std.specs.Int.{w32, w64, from_bool}
+use Rattle.std.specs.Int.{w64, from_bool}
 use Rattle.vt_riscv.specs.declared.places.TheConstants.{IMAGE, DATA, STATE, STACK, RETURN}
 use Rattle.vt_riscv.specs.declared.memory.Size.{Size}
 use Rattle.vt_riscv.specs.declared.memory.Size.TheVariants.{Byte, Half, Word, Double}
@@ -14,7 +14,7 @@ use Rattle.vt_riscv.specs.declared.machine.Trap.TheVariants.{BadJump, BadInstruc
 use Rattle.vt_riscv.specs.declared.machine.Stop.{Stop}
 use Rattle.vt_riscv.specs.declared.machine.Stop.TheVariants.{Called, Ended, Trapped, Spent}
 use Rattle.vt_riscv.specs.declared.machine.Outcome.{Outcome}
-use Rattle.vt_riscv.specs.Arithmetic.{low, sign_extended, sum, difference, sum_of_words, difference_of_words, left, right, right_signed, left_of_word, right_of_word, right_signed_of_word, less_signed, product, product_of_words, upper_signed, upper_mixed, upper_unsigned, quotient, rest, quotient_signed, rest_signed}
+use Rattle.vt_riscv.specs.Arithmetic.{sum, difference, sum_of_words, difference_of_words, left, right, right_signed, left_of_word, right_of_word, right_signed_of_word, less_signed, product, product_of_words, upper_signed, upper_mixed, upper_unsigned, quotient, rest, quotient_signed, rest_signed, quotient_of_words, rest_of_words, signed_quotient_of_words, signed_rest_of_words}
 use Rattle.vt_riscv.specs.Memory.{number_within, stored_within, extended}
 
 -- why the machine stops, if it does, and the machine then
@@ -98,11 +98,11 @@ module _ {N : ℕ} where
   loaded_in m i how None = trapped BadPlace m
   loaded_in m i how (Some v) = put_in m i (how v)
 
-  abbrev pub loaded : Code → Machine N → Instruction → Size → Turn N
-  loaded code m i size = loaded_in m i (λ (v : ℕ). v) (loaded_from code m size (address m i))
+  abbrev pub loaded : Code → Machine N → Instruction → Size → ℕ → Turn N
+  loaded code m i size at = loaded_in m i (λ (v : ℕ). v) (loaded_from code m size at)
 
-  abbrev pub loaded_signed : Code → Machine N → Instruction → Size → Turn N
-  loaded_signed code m i size = loaded_in m i (extended size) (loaded_from code m size (address m i))
+  abbrev pub loaded_signed : Code → Machine N → Instruction → Size → ℕ → Turn N
+  loaded_signed code m i size at = loaded_in m i (extended size) (loaded_from code m size at)
 
   -- a number is put into the state or the stack. The rest of memory can't be written
   abbrev pub state_put : Machine N → Instruction → Option (List ℕ) → Turn N
@@ -118,9 +118,6 @@ module _ {N : ℕ} where
       if nat_le STATE at then state_put m i (stored_within size m.state (at - STATE) v)
       else (if nat_le (STATE - STACK) at then stack_put m i (stored_within size m.stack (at - (STATE - STACK)) v)
       else trapped BadPlace m)
-
-  abbrev pub stores : Machine N → Instruction → Size → Turn N
-  stores m i size = stored_at m i size (address m i) (register_of m i.second)
 
   -- an instruction, by its operation
   abbrev pub exec_of : Code → Machine N → Instruction → Operation → Turn N
@@ -166,17 +163,17 @@ module _ {N : ℕ} where
   exec_of code m i Bltu = branched code m i (nat_lt (register_of m i.first) (register_of m i.second))
   exec_of code m i Bgeu = branched code m i (not (nat_lt (register_of m i.first) (register_of m i.second)))
   -- 2.6 Load and Store Instructions, and 5.3 of RV64I
-  exec_of code m i Lb = loaded_signed code m i Byte
-  exec_of code m i Lh = loaded_signed code m i Half
-  exec_of code m i Lw = loaded_signed code m i Word
-  exec_of code m i Ld = loaded code m i Double
-  exec_of code m i Lbu = loaded code m i Byte
-  exec_of code m i Lhu = loaded code m i Half
-  exec_of code m i Lwu = loaded code m i Word
-  exec_of code m i Sb = stores m i Byte
-  exec_of code m i Sh = stores m i Half
-  exec_of code m i Sw = stores m i Word
-  exec_of code m i Sd = stores m i Double
+  exec_of code m i Lb = loaded_signed code m i Byte (address m i)
+  exec_of code m i Lh = loaded_signed code m i Half (address m i)
+  exec_of code m i Lw = loaded_signed code m i Word (address m i)
+  exec_of code m i Ld = loaded code m i Double (address m i)
+  exec_of code m i Lbu = loaded code m i Byte (address m i)
+  exec_of code m i Lhu = loaded code m i Half (address m i)
+  exec_of code m i Lwu = loaded code m i Word (address m i)
+  exec_of code m i Sb = stored_at m i Byte (address m i) (register_of m i.second)
+  exec_of code m i Sh = stored_at m i Half (address m i) (register_of m i.second)
+  exec_of code m i Sw = stored_at m i Word (address m i) (register_of m i.second)
+  exec_of code m i Sd = stored_at m i Double (address m i) (register_of m i.second)
   -- 2.7 Memory Ordering Instructions
   exec_of code m i Fence = passed m i
   -- 2.8 Environment Call and Breakpoints
@@ -193,10 +190,10 @@ module _ {N : ℕ} where
   exec_of code m i Divu = put_in m i (quotient w64 (register_of m i.first) (register_of m i.second))
   exec_of code m i Rem = put_in m i (rest_signed w64 (register_of m i.first) (register_of m i.second))
   exec_of code m i Remu = put_in m i (rest (register_of m i.first) (register_of m i.second))
-  exec_of code m i Divw = put_in m i (sign_extended (quotient_signed w32 (low (register_of m i.first)) (low (register_of m i.second))))
-  exec_of code m i Divuw = put_in m i (sign_extended (quotient w32 (low (register_of m i.first)) (low (register_of m i.second))))
-  exec_of code m i Remw = put_in m i (sign_extended (rest_signed w32 (low (register_of m i.first)) (low (register_of m i.second))))
-  exec_of code m i Remuw = put_in m i (sign_extended (rest (low (register_of m i.first)) (low (register_of m i.second))))
+  exec_of code m i Divw = put_in m i (signed_quotient_of_words (register_of m i.first) (register_of m i.second))
+  exec_of code m i Divuw = put_in m i (quotient_of_words (register_of m i.first) (register_of m i.second))
+  exec_of code m i Remw = put_in m i (signed_rest_of_words (register_of m i.first) (register_of m i.second))
+  exec_of code m i Remuw = put_in m i (rest_of_words (register_of m i.first) (register_of m i.second))
 
   -- a step: the instruction at the machine's place. Where there is none, the program ends, if that is the place to end at
   abbrev pub obeyed : Code → Machine N → Option Instruction → Turn N

@@ -2,19 +2,19 @@
 
 ghost use Rattle.std.specs.Prelude.{◌≡◌, IsTrue, ◌↔◌};
 ghost use Rattle.std.specs.Int.{w32, w64};
-ghost use Rattle.vt_riscv.specs.Arithmetic.{low, sign_extended, sum_of_words, difference_of_words, right_signed, left_of_word, right_of_word, right_signed_of_word, less_signed, product_of_words, doubled, upper_signed, upper_mixed, upper_unsigned, quotient, rest, quotient_signed, rest_signed};
+ghost use Rattle.vt_riscv.specs.Arithmetic.{low, sign_extended, sum_of_words, difference_of_words, right_signed, left_of_word, right_of_word, right_signed_of_word, less_signed, product_of_words, doubled, upper_signed, upper_mixed, upper_unsigned, quotient, rest, quotient_signed, rest_signed, quotient_of_words, rest_of_words, signed_quotient_of_words, signed_rest_of_words};
 
-/// The low 32 bits.
+// The low 32 bits.
 #[inline]
-pub(crate) fn low(x: u64) -> u32
+fn low(x: u64) -> u32
     ensures { result ≡ low x }
 {
     (x % 0x1_0000_0000) as u32
 }
 
-/// A 32-bit number as 64 bits, by its sign.
+// A 32-bit number as 64 bits, by its sign.
 #[inline]
-pub(crate) fn sign_extended(x: u32) -> u64
+fn sign_extended(x: u32) -> u64
     ensures { result ≡ sign_extended x }
 {
     i64::from(x.cast_signed()).cast_unsigned()
@@ -127,20 +127,6 @@ pub(crate) fn rest(x: u64, y: u64) -> u64
 }
 
 #[inline]
-pub(crate) fn quotient_of_words(x: u32, y: u32) -> u32
-    ensures { result ≡ quotient w32 x y }
-{
-    if y == 0 { u32::MAX } else { x / y }
-}
-
-#[inline]
-pub(crate) fn rest_of_words(x: u32, y: u32) -> u32
-    ensures { result ≡ rest x y }
-{
-    if y == 0 { x } else { x % y }
-}
-
-#[inline]
 pub(crate) fn quotient_signed(x: u64, y: u64) -> u64
     ensures { result ≡ quotient_signed w64 x y }
 {
@@ -166,8 +152,23 @@ pub(crate) fn rest_signed(x: u64, y: u64) -> u64
     }
 }
 
+// The same of words.
 #[inline]
-pub(crate) fn quotient_signed_of_words(x: u32, y: u32) -> u32
+fn word_quotient(x: u32, y: u32) -> u32
+    ensures { result ≡ quotient w32 x y }
+{
+    if y == 0 { u32::MAX } else { x / y }
+}
+
+#[inline]
+fn word_rest(x: u32, y: u32) -> u32
+    ensures { result ≡ rest x y }
+{
+    if y == 0 { x } else { x % y }
+}
+
+#[inline]
+fn signed_word_quotient(x: u32, y: u32) -> u32
     ensures { result ≡ quotient_signed w32 x y }
 {
     if y == 0 {
@@ -180,7 +181,7 @@ pub(crate) fn quotient_signed_of_words(x: u32, y: u32) -> u32
 }
 
 #[inline]
-pub(crate) fn rest_signed_of_words(x: u32, y: u32) -> u32
+fn signed_word_rest(x: u32, y: u32) -> u32
     ensures { result ≡ rest_signed w32 x y }
 {
     if y == 0 {
@@ -190,4 +191,32 @@ pub(crate) fn rest_signed_of_words(x: u32, y: u32) -> u32
             .wrapping_rem(y.cast_signed())
             .cast_unsigned()
     }
+}
+
+#[inline]
+pub(crate) fn quotient_of_words(x: u64, y: u64) -> u64
+    ensures { result ≡ quotient_of_words x y }
+{
+    sign_extended(word_quotient(low(x), low(y)))
+}
+
+#[inline]
+pub(crate) fn rest_of_words(x: u64, y: u64) -> u64
+    ensures { result ≡ rest_of_words x y }
+{
+    sign_extended(word_rest(low(x), low(y)))
+}
+
+#[inline]
+pub(crate) fn signed_quotient_of_words(x: u64, y: u64) -> u64
+    ensures { result ≡ signed_quotient_of_words x y }
+{
+    sign_extended(signed_word_quotient(low(x), low(y)))
+}
+
+#[inline]
+pub(crate) fn signed_rest_of_words(x: u64, y: u64) -> u64
+    ensures { result ≡ signed_rest_of_words x y }
+{
+    sign_extended(signed_word_rest(low(x), low(y)))
 }

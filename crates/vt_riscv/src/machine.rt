@@ -1,13 +1,13 @@
 //! The machine, and what one instruction does to it.
 
 ghost use Rattle.std.specs.Prelude.{◌≡◌};
-ghost use Rattle.vt_riscv.specs.Steps.{is_misaligned, fetch_of, put_in, passed, jumped, branched, register_of, address, loaded_from, loaded, loaded_signed, stores, exec_of, step_of, run_of, answered};
+ghost use Rattle.vt_riscv.specs.Steps.{is_misaligned, fetch_of, put_in, passed, jumped, branched, register_of, loaded_from, loaded, loaded_signed, stored_at, exec_of, step_of, run_of, answered};
 
 use crate::arithmetic::{
-    difference_of_words, left_of_word, less_signed, low, product_of_words, quotient,
-    quotient_of_words, quotient_signed, quotient_signed_of_words, rest, rest_of_words, rest_signed,
-    rest_signed_of_words, right_of_word, right_signed, right_signed_of_word, sign_extended,
-    sum_of_words, upper_mixed, upper_signed, upper_unsigned,
+    difference_of_words, left_of_word, less_signed, product_of_words, quotient, quotient_of_words,
+    quotient_signed, rest, rest_of_words, rest_signed, right_of_word, right_signed,
+    right_signed_of_word, signed_quotient_of_words, signed_rest_of_words, sum_of_words,
+    upper_mixed, upper_signed, upper_unsigned,
 };
 use crate::memory::{Size, extended, number_within, store, width};
 use crate::{Code, DATA, IMAGE, Instruction, Operation, RETURN, STACK, STATE};
@@ -144,14 +144,6 @@ impl<const N: usize> Machine<N> {
         None
     }
 
-    // The place that a load or a store speaks of.
-    #[inline]
-    fn address(&self, i: Instruction) -> u64
-        ensures { result ≡ address self.now i }
-    {
-        self.register(i.first).wrapping_add(i.immediate)
-    }
-
     // What lies at a place, if all of it lies in one part of memory.
     #[inline]
     fn load_from(&self, code: &Code, size: Size, at: u64) -> Option<u64>
@@ -172,11 +164,11 @@ impl<const N: usize> Machine<N> {
 
     // Puts a number from memory into a register.
     #[inline]
-    fn load(&mut self, code: &Code, i: Instruction, size: Size) -> Option<Stop>
-        ensures stop { result ≡ (loaded code.now self.old i size).stop }
-        ensures machine { self.new ≡ (loaded code.now self.old i size).machine }
+    fn load(&mut self, code: &Code, i: Instruction, at: u64, size: Size) -> Option<Stop>
+        ensures stop { result ≡ (loaded code.now self.old i size at).stop }
+        ensures machine { self.new ≡ (loaded code.now self.old i size at).machine }
     {
-        match self.load_from(code, size, self.address(i)) {
+        match self.load_from(code, size, at) {
             Some(v) => self.put(i, v),
             None => Some(Stop::Trapped(Trap::BadPlace)),
         }
@@ -184,24 +176,22 @@ impl<const N: usize> Machine<N> {
 
     // The same of a number with a sign.
     #[inline]
-    fn load_signed(&mut self, code: &Code, i: Instruction, size: Size) -> Option<Stop>
-        ensures stop { result ≡ (loaded_signed code.now self.old i size).stop }
-        ensures machine { self.new ≡ (loaded_signed code.now self.old i size).machine }
+    fn load_signed(&mut self, code: &Code, i: Instruction, at: u64, size: Size) -> Option<Stop>
+        ensures stop { result ≡ (loaded_signed code.now self.old i size at).stop }
+        ensures machine { self.new ≡ (loaded_signed code.now self.old i size at).machine }
     {
-        match self.load_from(code, size, self.address(i)) {
+        match self.load_from(code, size, at) {
             Some(v) => self.put(i, extended(size, v)),
             None => Some(Stop::Trapped(Trap::BadPlace)),
         }
     }
 
-    // Puts a number from a register into memory.
+    // Puts a number into memory.
     #[inline]
-    fn store(&mut self, i: Instruction, size: Size) -> Option<Stop>
-        ensures stop { result ≡ (stores self.old i size).stop }
-        ensures machine { self.new ≡ (stores self.old i size).machine }
+    fn store(&mut self, i: Instruction, at: u64, v: u64, size: Size) -> Option<Stop>
+        ensures stop { result ≡ (stored_at self.old i size at v).stop }
+        ensures machine { self.new ≡ (stored_at self.old i size at v).machine }
     {
-        let at = self.address(i);
-        let v = self.register(i.second);
         if at >= STATE {
             if at - STATE > N as u64 || width(size) > N as u64 - (at - STATE) {
                 return Some(Stop::Trapped(Trap::BadPlace));
@@ -223,181 +213,76 @@ impl<const N: usize> Machine<N> {
         ensures stop { result ≡ (exec_of code.now self.old i i.operation).stop }
         ensures machine { self.new ≡ (exec_of code.now self.old i i.operation).machine }
     {
+        let x = self.register(i.first);
+        let y = self.register(i.second);
+        let at = x.wrapping_add(i.immediate);
         match i.operation {
             Operation::Bad => Some(Stop::Trapped(Trap::BadInstruction)),
             Operation::Lui => self.put(i, i.immediate),
             Operation::Auipc => self.put(i, self.place.wrapping_add(i.immediate)),
             Operation::Jal => self.jump(code, i, self.place.wrapping_add(i.immediate)),
-            Operation::Jalr => self.jump(code, i, self.address(i) - self.address(i) % 2),
-            Operation::Beq => self.branch(
-                code,
-                i,
-                self.register(i.first) == self.register(i.second),
-            ),
-            Operation::Bne => self.branch(
-                code,
-                i,
-                self.register(i.first) != self.register(i.second),
-            ),
-            Operation::Blt => self.branch(
-                code,
-                i,
-                less_signed(self.register(i.first), self.register(i.second)),
-            ),
-            Operation::Bge => self.branch(
-                code,
-                i,
-                !less_signed(self.register(i.first), self.register(i.second)),
-            ),
-            Operation::Bltu => self.branch(
-                code,
-                i,
-                self.register(i.first) < self.register(i.second),
-            ),
-            Operation::Bgeu => self.branch(
-                code,
-                i,
-                self.register(i.first) >= self.register(i.second),
-            ),
-            Operation::Lb => self.load_signed(code, i, Size::Byte),
-            Operation::Lh => self.load_signed(code, i, Size::Half),
-            Operation::Lw => self.load_signed(code, i, Size::Word),
-            Operation::Ld => self.load(code, i, Size::Double),
-            Operation::Lbu => self.load(code, i, Size::Byte),
-            Operation::Lhu => self.load(code, i, Size::Half),
-            Operation::Lwu => self.load(code, i, Size::Word),
-            Operation::Sb => self.store(i, Size::Byte),
-            Operation::Sh => self.store(i, Size::Half),
-            Operation::Sw => self.store(i, Size::Word),
-            Operation::Sd => self.store(i, Size::Double),
-            Operation::Addi => self.put(i, self.register(i.first).wrapping_add(i.immediate)),
-            Operation::Slti => self.put(
-                i,
-                u64::from(less_signed(self.register(i.first), i.immediate)),
-            ),
-            Operation::Sltiu => self.put(i, u64::from(self.register(i.first) < i.immediate)),
-            Operation::Xori => self.put(i, self.register(i.first) ^ i.immediate),
-            Operation::Ori => self.put(i, self.register(i.first) | i.immediate),
-            Operation::Andi => self.put(i, self.register(i.first) & i.immediate),
-            Operation::Slli => self.put(i, self.register(i.first) << (i.immediate % 64)),
-            Operation::Srli => self.put(i, self.register(i.first) >> (i.immediate % 64)),
-            Operation::Srai => self.put(i, right_signed(self.register(i.first), i.immediate)),
-            Operation::Add => self.put(
-                i,
-                self.register(i.first).wrapping_add(self.register(i.second)),
-            ),
-            Operation::Sub => self.put(
-                i,
-                self.register(i.first).wrapping_sub(self.register(i.second)),
-            ),
-            Operation::Sll => self.put(i, self.register(i.first) << (self.register(i.second) % 64)),
-            Operation::Slt => self.put(
-                i,
-                u64::from(less_signed(self.register(i.first), self.register(i.second))),
-            ),
-            Operation::Sltu => self.put(
-                i,
-                u64::from(self.register(i.first) < self.register(i.second)),
-            ),
-            Operation::Xor => self.put(i, self.register(i.first) ^ self.register(i.second)),
-            Operation::Srl => self.put(i, self.register(i.first) >> (self.register(i.second) % 64)),
-            Operation::Sra => self.put(
-                i,
-                right_signed(self.register(i.first), self.register(i.second)),
-            ),
-            Operation::Or => self.put(i, self.register(i.first) | self.register(i.second)),
-            Operation::And => self.put(i, self.register(i.first) & self.register(i.second)),
-            Operation::Addiw => self.put(i, sum_of_words(self.register(i.first), i.immediate)),
-            Operation::Slliw => self.put(i, left_of_word(self.register(i.first), i.immediate)),
-            Operation::Srliw => self.put(i, right_of_word(self.register(i.first), i.immediate)),
-            Operation::Sraiw => self.put(
-                i,
-                right_signed_of_word(self.register(i.first), i.immediate),
-            ),
-            Operation::Addw => self.put(
-                i,
-                sum_of_words(self.register(i.first), self.register(i.second)),
-            ),
-            Operation::Subw => self.put(
-                i,
-                difference_of_words(self.register(i.first), self.register(i.second)),
-            ),
-            Operation::Sllw => self.put(
-                i,
-                left_of_word(self.register(i.first), self.register(i.second)),
-            ),
-            Operation::Srlw => self.put(
-                i,
-                right_of_word(self.register(i.first), self.register(i.second)),
-            ),
-            Operation::Sraw => self.put(
-                i,
-                right_signed_of_word(self.register(i.first), self.register(i.second)),
-            ),
+            Operation::Jalr => self.jump(code, i, at - at % 2),
+            Operation::Beq => self.branch(code, i, x == y),
+            Operation::Bne => self.branch(code, i, x != y),
+            Operation::Blt => self.branch(code, i, less_signed(x, y)),
+            Operation::Bge => self.branch(code, i, !less_signed(x, y)),
+            Operation::Bltu => self.branch(code, i, x < y),
+            Operation::Bgeu => self.branch(code, i, x >= y),
+            Operation::Lb => self.load_signed(code, i, at, Size::Byte),
+            Operation::Lh => self.load_signed(code, i, at, Size::Half),
+            Operation::Lw => self.load_signed(code, i, at, Size::Word),
+            Operation::Ld => self.load(code, i, at, Size::Double),
+            Operation::Lbu => self.load(code, i, at, Size::Byte),
+            Operation::Lhu => self.load(code, i, at, Size::Half),
+            Operation::Lwu => self.load(code, i, at, Size::Word),
+            Operation::Sb => self.store(i, at, y, Size::Byte),
+            Operation::Sh => self.store(i, at, y, Size::Half),
+            Operation::Sw => self.store(i, at, y, Size::Word),
+            Operation::Sd => self.store(i, at, y, Size::Double),
+            Operation::Addi => self.put(i, at),
+            Operation::Slti => self.put(i, u64::from(less_signed(x, i.immediate))),
+            Operation::Sltiu => self.put(i, u64::from(x < i.immediate)),
+            Operation::Xori => self.put(i, x ^ i.immediate),
+            Operation::Ori => self.put(i, x | i.immediate),
+            Operation::Andi => self.put(i, x & i.immediate),
+            Operation::Slli => self.put(i, x << (i.immediate % 64)),
+            Operation::Srli => self.put(i, x >> (i.immediate % 64)),
+            Operation::Srai => self.put(i, right_signed(x, i.immediate)),
+            Operation::Add => self.put(i, x.wrapping_add(y)),
+            Operation::Sub => self.put(i, x.wrapping_sub(y)),
+            Operation::Sll => self.put(i, x << (y % 64)),
+            Operation::Slt => self.put(i, u64::from(less_signed(x, y))),
+            Operation::Sltu => self.put(i, u64::from(x < y)),
+            Operation::Xor => self.put(i, x ^ y),
+            Operation::Srl => self.put(i, x >> (y % 64)),
+            Operation::Sra => self.put(i, right_signed(x, y)),
+            Operation::Or => self.put(i, x | y),
+            Operation::And => self.put(i, x & y),
+            Operation::Addiw => self.put(i, sum_of_words(x, i.immediate)),
+            Operation::Slliw => self.put(i, left_of_word(x, i.immediate)),
+            Operation::Srliw => self.put(i, right_of_word(x, i.immediate)),
+            Operation::Sraiw => self.put(i, right_signed_of_word(x, i.immediate)),
+            Operation::Addw => self.put(i, sum_of_words(x, y)),
+            Operation::Subw => self.put(i, difference_of_words(x, y)),
+            Operation::Sllw => self.put(i, left_of_word(x, y)),
+            Operation::Srlw => self.put(i, right_of_word(x, y)),
+            Operation::Sraw => self.put(i, right_signed_of_word(x, y)),
             Operation::Fence => self.pass(i),
             Operation::Ecall => Some(Stop::Called),
             Operation::Ebreak => Some(Stop::Trapped(Trap::Breakpoint)),
-            Operation::Mul => self.put(
-                i,
-                self.register(i.first).wrapping_mul(self.register(i.second)),
-            ),
-            Operation::Mulh => self.put(
-                i,
-                upper_signed(self.register(i.first), self.register(i.second)),
-            ),
-            Operation::Mulhsu => self.put(
-                i,
-                upper_mixed(self.register(i.first), self.register(i.second)),
-            ),
-            Operation::Mulhu => self.put(
-                i,
-                upper_unsigned(self.register(i.first), self.register(i.second)),
-            ),
-            Operation::Div => self.put(
-                i,
-                quotient_signed(self.register(i.first), self.register(i.second)),
-            ),
-            Operation::Divu => self.put(
-                i,
-                quotient(self.register(i.first), self.register(i.second)),
-            ),
-            Operation::Rem => self.put(
-                i,
-                rest_signed(self.register(i.first), self.register(i.second)),
-            ),
-            Operation::Remu => self.put(i, rest(self.register(i.first), self.register(i.second))),
-            Operation::Mulw => self.put(
-                i,
-                product_of_words(self.register(i.first), self.register(i.second)),
-            ),
-            Operation::Divw => self.put(
-                i,
-                sign_extended(quotient_signed_of_words(
-                    low(self.register(i.first)),
-                    low(self.register(i.second)),
-                )),
-            ),
-            Operation::Divuw => self.put(
-                i,
-                sign_extended(quotient_of_words(
-                    low(self.register(i.first)),
-                    low(self.register(i.second)),
-                )),
-            ),
-            Operation::Remw => self.put(
-                i,
-                sign_extended(rest_signed_of_words(
-                    low(self.register(i.first)),
-                    low(self.register(i.second)),
-                )),
-            ),
-            Operation::Remuw => self.put(
-                i,
-                sign_extended(rest_of_words(
-                    low(self.register(i.first)),
-                    low(self.register(i.second)),
-                )),
-            ),
+            Operation::Mul => self.put(i, x.wrapping_mul(y)),
+            Operation::Mulh => self.put(i, upper_signed(x, y)),
+            Operation::Mulhsu => self.put(i, upper_mixed(x, y)),
+            Operation::Mulhu => self.put(i, upper_unsigned(x, y)),
+            Operation::Div => self.put(i, quotient_signed(x, y)),
+            Operation::Divu => self.put(i, quotient(x, y)),
+            Operation::Rem => self.put(i, rest_signed(x, y)),
+            Operation::Remu => self.put(i, rest(x, y)),
+            Operation::Mulw => self.put(i, product_of_words(x, y)),
+            Operation::Divw => self.put(i, signed_quotient_of_words(x, y)),
+            Operation::Divuw => self.put(i, quotient_of_words(x, y)),
+            Operation::Remw => self.put(i, signed_rest_of_words(x, y)),
+            Operation::Remuw => self.put(i, rest_of_words(x, y)),
         }
     }
 
