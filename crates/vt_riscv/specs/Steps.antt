@@ -27,10 +27,6 @@ pub record Ran (N : ℕ) : Type 0 where
   pub outcome : Outcome
   pub machine : Machine N
 
--- 2.1 Programmers' Model for Base Integer ISA: the registers with another number in one. Register 0 is always 0
-abbrev pub with_register : List ℕ → ℕ → ℕ → List ℕ
-with_register registers r v = slice_set (slice_set registers (r % 32) v) 0 0
-
 -- 2.5 Control Transfer Instructions: what the place of an instruction is a multiple of: 4, or 2 with compressed instructions
 abbrev pub is_misaligned : Code → ℕ → Bool
 is_misaligned code place = not (nat_eq (place % (if code.compressed then 2 else 4)) 0)
@@ -51,9 +47,13 @@ module _ {N : ℕ} where
   abbrev pub trapped : Trap → Machine N → Turn N
   trapped why m = stops (Trapped why) m
 
-  -- what a register holds
+  -- 2.1 Programmers' Model for Base Integer ISA: what a register holds
   abbrev pub register_of : Machine N → ℕ → ℕ
   register_of m r = slice_index m.registers (r % 32)
+
+  -- the machine with another number in a register. Register 0 is always 0
+  abbrev pub with_register : Machine N → ℕ → ℕ → Machine N
+  with_register m r v = record m { registers = slice_set (slice_set m.registers (r % 32) v) 0 0 }
 
   -- the place behind an instruction
   abbrev pub behind : Machine N → Instruction → ℕ
@@ -61,7 +61,7 @@ module _ {N : ℕ} where
 
   -- the machine behind an instruction that put a number into a register
   abbrev pub put_in : Machine N → Instruction → ℕ → Turn N
-  put_in m i v = goes_on (record m { registers = with_register m.registers i.destination v; place = behind m i })
+  put_in m i v = goes_on (record (with_register m i.destination v) { place = behind m i })
 
   -- the machine behind an instruction that changed nothing else
   abbrev pub passed : Machine N → Instruction → Turn N
@@ -71,7 +71,7 @@ module _ {N : ℕ} where
   abbrev pub jumped : Code → Machine N → Instruction → ℕ → Turn N
   jumped code m i to =
       if is_misaligned code to then trapped BadJump m
-      else goes_on (record m { registers = with_register m.registers i.destination (behind m i); place = to })
+      else goes_on (record (with_register m i.destination (behind m i)) { place = to })
 
   -- 2.5 Conditional Branches: to a place, if the branch is taken
   abbrev pub branched : Code → Machine N → Instruction → Bool → Turn N
@@ -215,4 +215,4 @@ module _ {N : ℕ} where
 
   -- the machine behind the call that it stopped at, which was answered
   abbrev pub answered : Machine N → ℕ → Machine N
-  answered m v = record m { registers = with_register m.registers 10 v; place = sum m.place 4 }
+  answered m v = record (with_register m 10 v) { place = sum m.place 4 }

@@ -1,7 +1,7 @@
 //! Instructions from words.
 
 ghost use Rattle.std.specs.Prelude.{◌≡◌};
-ghost use Rattle.vt_riscv.specs.Decoding.{by_sign, i_immediate, s_immediate, b_immediate, u_immediate, j_immediate, r_type, i_type, s_type, b_type, u_type, j_type, shift_type, plain, branch_of, load_of, store_of, op_imm_of, op_imm_32_of, op_base_of, op_other_of, op_mul_of, op_of, op_32_base_of, op_32_other_of, op_32_mul_of, op_32_of, jalr_of, fence_of, system_of, decode_of};
+ghost use Rattle.vt_riscv.specs.Decoding.{by_sign, rd_of, rs1_of, rs2_of, i_immediate, s_immediate, b_immediate, u_immediate, j_immediate, r_type, i_type, s_type, b_type, u_type, j_type, shift_type, plain, branch_of, load_of, store_of, op_imm_of, op_imm_32_of, op_base_of, op_other_of, op_mul_of, op_of, op_32_base_of, op_32_other_of, op_32_mul_of, op_32_of, jalr_of, fence_of, system_of, decode_of};
 
 use crate::{Instruction, Operation};
 
@@ -17,14 +17,33 @@ fn by_sign(x: u32, half: u64) -> u64
     }
 }
 
+// The registers of a word.
+fn rd(w: u32) -> u8
+    ensures { result ≡ rd_of w }
+{
+    (w / 0x80 % 32) as u8
+}
+
+fn rs1(w: u32) -> u8
+    ensures { result ≡ rs1_of w }
+{
+    (w / 0x8000 % 32) as u8
+}
+
+fn rs2(w: u32) -> u8
+    ensures { result ≡ rs2_of w }
+{
+    (w / 0x10_0000 % 32) as u8
+}
+
 fn r_type(operation: Operation, w: u32) -> Instruction
     ensures { result ≡ r_type operation w }
 {
     Instruction {
         operation,
-        destination: (w / 0x80 % 32) as u8,
-        first: (w / 0x8000 % 32) as u8,
-        second: (w / 0x10_0000 % 32) as u8,
+        destination: rd(w),
+        first: rs1(w),
+        second: rs2(w),
         length: 4,
         immediate: 0,
     }
@@ -35,8 +54,8 @@ fn i_type(operation: Operation, w: u32) -> Instruction
 {
     Instruction {
         operation,
-        destination: (w / 0x80 % 32) as u8,
-        first: (w / 0x8000 % 32) as u8,
+        destination: rd(w),
+        first: rs1(w),
         second: 0,
         length: 4,
         immediate: by_sign(w / 0x10_0000, 0x800),
@@ -49,8 +68,8 @@ fn s_type(operation: Operation, w: u32) -> Instruction
     Instruction {
         operation,
         destination: 0,
-        first: (w / 0x8000 % 32) as u8,
-        second: (w / 0x10_0000 % 32) as u8,
+        first: rs1(w),
+        second: rs2(w),
         length: 4,
         immediate: by_sign(w / 0x200_0000 * 0x20 + w / 0x80 % 32, 0x800),
     }
@@ -64,8 +83,8 @@ fn b_type(operation: Operation, w: u32) -> Instruction
     Instruction {
         operation,
         destination: 0,
-        first: (w / 0x8000 % 32) as u8,
-        second: (w / 0x10_0000 % 32) as u8,
+        first: rs1(w),
+        second: rs2(w),
         length: 4,
         immediate: by_sign(x, 0x1000),
     }
@@ -76,7 +95,7 @@ fn u_type(operation: Operation, w: u32) -> Instruction
 {
     Instruction {
         operation,
-        destination: (w / 0x80 % 32) as u8,
+        destination: rd(w),
         first: 0,
         second: 0,
         length: 4,
@@ -94,7 +113,7 @@ fn j_type(operation: Operation, w: u32) -> Instruction
         + w / 0x20_0000 % 0x400 * 2;
     Instruction {
         operation,
-        destination: (w / 0x80 % 32) as u8,
+        destination: rd(w),
         first: 0,
         second: 0,
         length: 4,
@@ -108,8 +127,8 @@ fn shift_type(operation: Operation, w: u32, amount: u32) -> Instruction
 {
     Instruction {
         operation,
-        destination: (w / 0x80 % 32) as u8,
-        first: (w / 0x8000 % 32) as u8,
+        destination: rd(w),
+        first: rs1(w),
         second: 0,
         length: 4,
         immediate: u64::from(amount),

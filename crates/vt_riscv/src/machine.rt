@@ -1,7 +1,7 @@
 //! The machine, and what one instruction does to it.
 
 ghost use Rattle.std.specs.Prelude.{◌≡◌};
-ghost use Rattle.vt_riscv.specs.Steps.{is_misaligned, fetch_of, put_in, passed, jumped, branched, register_of, loaded_from, loaded, loaded_signed, stored_at, exec_of, step_of, run_of, answered};
+ghost use Rattle.vt_riscv.specs.Steps.{is_misaligned, fetch_of, with_register, put_in, passed, jumped, branched, register_of, loaded_from, loaded, loaded_signed, stored_at, exec_of, step_of, run_of, answered};
 
 use crate::arithmetic::{
     difference_of_words, left_of_word, less_signed, product_of_words, quotient, quotient_of_words,
@@ -89,14 +89,22 @@ impl<const N: usize> Machine<N> {
         self.registers[(r % 32) as usize]
     }
 
+    // Puts a number into a register, of which the first stays 0.
+    #[inline]
+    fn set(&mut self, r: u8, v: u64)
+        ensures { self.new ≡ with_register self.old r v }
+    {
+        self.registers[(r % 32) as usize] = v;
+        self.registers[0] = 0;
+    }
+
     // Puts a number into the register of an instruction's result, and goes on behind it.
     #[inline]
     fn put(&mut self, i: Instruction, v: u64) -> Option<Stop>
         ensures stop { result ≡ (put_in self.old i v).stop }
         ensures machine { self.new ≡ (put_in self.old i v).machine }
     {
-        self.registers[(i.destination % 32) as usize] = v;
-        self.registers[0] = 0;
+        self.set(i.destination, v);
         self.pass(i)
     }
 
@@ -119,10 +127,8 @@ impl<const N: usize> Machine<N> {
         if is_misaligned(code, to) {
             return Some(Stop::Trapped(Trap::BadJump));
         }
-        self.registers[(i.destination % 32) as usize] = self
-            .place
-            .wrapping_add(u64::from(i.length));
-        self.registers[0] = 0;
+        let behind = self.place.wrapping_add(u64::from(i.length));
+        self.set(i.destination, behind);
         self.place = to;
         None
     }
@@ -329,8 +335,7 @@ impl<const N: usize> Machine<N> {
     pub fn answer(&mut self, value: u64)
         ensures { self.new ≡ answered self.old value }
     {
-        self.registers[10] = value;
-        self.registers[0] = 0;
+        self.set(10, value);
         self.place = self.place.wrapping_add(4);
     }
 }
