@@ -5,8 +5,8 @@ ghost use Rattle.vt_riscv.specs.Decoding.{by_sign, rd_of, rs1_of, rs2_of, i_imme
 
 use crate::{Instruction, Operation};
 
-// A number as 64 bits, by its sign, where `half` is half of what its bits can hold.
-fn by_sign(x: u32, half: u64) -> u64
+/// A number as 64 bits, by its sign, where `half` is half of what its bits can hold.
+pub(crate) fn by_sign(x: u32, half: u64) -> u64
     ensures { result ≡ by_sign x half }
 {
     let x = u64::from(x);
