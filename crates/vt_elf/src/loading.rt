@@ -1,0 +1,37 @@
+//! The memory that segments describe.
+
+ghost use Rattle.std.specs.Prelude.{◌≡◌, ℕ, ◌+◌, ◌^◌, ◌<◌, ◌≤◌, IfOk, IfErr, length, slice_index};
+ghost use Rattle.std.specs.List.{AllByRecursion};
+ghost use Rattle.vt_elf.specs.Segments.{memory_byte, IsApart};
+ghost use Rattle.vt_elf.specs.declared.refusal.Refusal.TheVariants.{Memory};
+
+use crate::refusal::Refusal;
+use crate::segment::Segment;
+use std::alloc::Global;
+
+/// So many bytes of memory from a place on: those that the segments have in the file, and zeros elsewhere.
+pub(crate) fn load(
+    alloc: Global,
+    bytes: &[u8],
+    segments: &[Segment],
+    base: u64,
+    size: usize,
+) -> Result<Vec<u8>, Refusal>
+    requires apart { AllByRecursion (IsApart bytes.now base (base + size)) segments.now }
+    requires fits { base + size < 2 ^ 64 }
+    ensures size { IfOk result (λ memory. length memory.items ≡ size) }
+    ensures bytes { IfOk result (λ memory. (k : ℕ) → k < size → slice_index memory.items k ≡ memory_byte bytes.now segments.now (base + k)) }
+    ensures refused { IfErr result (λ refusal. refusal ≡ Memory) }
+{
+    let mut memory = vec![in alloc; 0u8; size]?;
+    for index in (0..segments.len()).rev() {
+        let segment = &segments[index];
+        if base <= segment.place && segment.place - base < size as u64 {
+            let from = segment.offset as usize;
+            let to = (segment.place - base) as usize;
+            let count = segment.file_size as usize;
+            memory[to..to + count].copy_from_slice(&bytes[from..from + count]);
+        }
+    }
+    Ok(memory)
+}
