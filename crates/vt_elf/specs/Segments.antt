@@ -101,9 +101,12 @@ state_end ss = reach State STATE ss
 abbrev pub has_byte : Segment → ℕ → Bool
 has_byte s place = nat_le s.place place && nat_lt place (s.place + s.file_size)
 
+abbrev pub file_byte : List ℕ → Segment → ℕ → ℕ
+file_byte file s place = slice_index file (s.offset + (place - s.place))
+
 abbrev pub memory_byte : List ℕ → List Segment → ℕ → ℕ
 memory_byte file [] place = 0
-memory_byte file (s ∷ ss) place = if has_byte s place then slice_index file (s.offset + (place - s.place)) else memory_byte file ss place
+memory_byte file (s ∷ ss) place = if has_byte s place then file_byte file s place else memory_byte file ss place
 
 -- the file has the segment's bytes, and they don't cross a border of the memory from `low` to `high`
 pub record IsApart (file : List ℕ) (low high : ℕ) (s : Segment) : Type 0 where

@@ -49,17 +49,18 @@ pub fn read_executable(alloc: Global, bytes: &[u8]) -> Result<Executable, Refusa
     ensures state_limit { IfOk result (λ executable. length executable.first_state.items ≤ MAX_STATE) }
 {
     check_header(bytes)?;
-    let segments = read_segments(alloc, bytes)?;
-    check_segments(&segments, bytes.len())?;
+    let found = read_segments(alloc, bytes)?;
+    let segments = found.as_slice();
+    check_segments(segments, bytes.len())?;
     let section = find_symbols(bytes)?;
-    let code_end = reach(Region::Code, IMAGE, &segments);
-    let image_end = reach(Region::Constants, code_end, &segments);
-    let state_end = reach(Region::State, STATE, &segments);
+    let code_end = reach(Region::Code, IMAGE, segments);
+    let image_end = reach(Region::Constants, code_end, segments);
+    let state_end = reach(Region::State, STATE, segments);
     Ok(Executable {
         is_compressed: is_compressed(bytes),
-        image: load(alloc, bytes, &segments, IMAGE, (image_end - IMAGE) as usize)?,
+        image: load(alloc, bytes, segments, IMAGE, (image_end - IMAGE) as usize)?,
         code_size: (code_end - IMAGE) as usize,
-        first_state: load(alloc, bytes, &segments, STATE, (state_end - STATE) as usize)?,
+        first_state: load(alloc, bytes, segments, STATE, (state_end - STATE) as usize)?,
         symbols: read_symbols(alloc, bytes, section)?,
     })
 }

@@ -37,7 +37,7 @@ pub(crate) fn check_header(bytes: &[u8]) -> Result<(), Refusal>
     if !has_program_headers(bytes) {
         return Err(Refusal::DamagedHeaders);
     }
-    if is_dynamic(bytes) {
+    if is_any_dynamic(bytes) {
         return Err(Refusal::NotStatic);
     }
     Ok(())
@@ -94,14 +94,24 @@ pub(crate) fn program_header(bytes: &[u8], index: usize) -> usize
 }
 
 /// Whether a program header wants a dynamic linker.
-fn is_dynamic(bytes: &[u8]) -> bool
+fn is_dynamic(bytes: &[u8], index: usize) -> bool
+    requires header { 64 ≤ length bytes.now }
+    requires headers { has_program_headers bytes.now ≡ true }
+    requires below { index < e_phnum bytes.now }
+    ensures { result ≡ is_dynamic bytes.now index }
+{
+    let header_type = word_at(bytes, program_header(bytes, index));
+    header_type == PT_DYNAMIC || header_type == PT_INTERP
+}
+
+/// Whether any program header does.
+fn is_any_dynamic(bytes: &[u8]) -> bool
     requires header { 64 ≤ length bytes.now }
     requires headers { has_program_headers bytes.now ≡ true }
     ensures { result ≡ is_some (first_below (is_dynamic bytes.now) (e_phnum bytes.now)) }
 {
     for index in 0..program_header_count(bytes) {
-        let kind = word_at(bytes, program_header(bytes, index));
-        if kind == PT_DYNAMIC || kind == PT_INTERP {
+        if is_dynamic(bytes, index) {
             return true;
         }
     }

@@ -1,8 +1,8 @@
 //! The memory that segments describe.
 
-ghost use Rattle.std.specs.Prelude.{◌≡◌, ℕ, ◌+◌, ◌^◌, ◌<◌, ◌≤◌, IfOk, IfErr, length, slice_index};
+ghost use Rattle.std.specs.Prelude.{◌≡◌, ℕ, ◌+◌, ◌^◌, ◌<◌, ◌≤◌, IfOk, IfErr, if◌then◌else◌, length, slice_index};
 ghost use Rattle.std.specs.List.{AllByRecursion};
-ghost use Rattle.vt_elf.specs.Segments.{memory_byte, IsApart};
+ghost use Rattle.vt_elf.specs.Segments.{file_byte, has_byte, memory_byte, IsApart};
 ghost use Rattle.vt_elf.specs.declared.refusal.Refusal.TheVariants.{Memory};
 
 use crate::refusal::Refusal;
@@ -25,13 +25,22 @@ pub(crate) fn load(
 {
     let mut memory = vec![in alloc; 0u8; size]?;
     for index in (0..segments.len()).rev() {
-        let segment = &segments[index];
-        if base <= segment.place && segment.place - base < size as u64 {
-            let from = segment.offset as usize;
-            let to = (segment.place - base) as usize;
-            let count = segment.file_size as usize;
-            memory[to..to + count].copy_from_slice(&bytes[from..from + count]);
-        }
+        put(&mut memory, base, &segments[index], bytes);
     }
     Ok(memory)
+}
+
+/// Puts the bytes that a segment has in the file into the memory from `base` on, if it begins there.
+fn put(memory: &mut [u8], base: u64, segment: &Segment, bytes: &[u8])
+    requires apart { IsApart bytes.now base (base + length memory.old) segment.now }
+    requires fits { base + length memory.old < 2 ^ 64 }
+    ensures { (k : ℕ) → k < length memory.new → slice_index memory.new k ≡ (if has_byte segment.now (base + k) then file_byte bytes.now segment.now (base + k) else slice_index memory.old k) }
+{
+    if !segment.begins_within(base, memory.len()) {
+        return;
+    }
+    let from = segment.offset as usize;
+    let to = (segment.place - base) as usize;
+    let count = segment.file_size as usize;
+    memory[to..to + count].copy_from_slice(&bytes[from..from + count]);
 }

@@ -1,6 +1,6 @@
 //! The loadable segments, and the regions of memory that they may lie in.
 
-ghost use Rattle.std.specs.Prelude.{◌≡◌, ◌+◌, ◌^◌, ◌<◌, ◌≤◌, IfOk, IfErr, length, true};
+ghost use Rattle.std.specs.Prelude.{◌≡◌, ◌+◌, ◌^◌, ◌<◌, ◌≤◌, ◌&&◌, IfOk, IfErr, length, nat_le, nat_lt, true};
 ghost use Rattle.std.specs.List.{AllByRecursion};
 ghost use Rattle.std.specs.Result.{result_err};
 ghost use Rattle.vt_elf.specs.Executables.{has_program_headers, segments};
@@ -115,6 +115,13 @@ impl Segment {
             Region::Constants => !self.is_executable() && !self.is_writable(),
             Region::State => self.is_writable(),
         }
+    }
+
+    /// Whether the segment begins within so many bytes from a place on.
+    pub(crate) fn begins_within(&self, base: u64, size: usize) -> bool
+        ensures { result ≡ (nat_le base self.now.place && nat_lt self.now.place (base + size)) }
+    {
+        base <= self.place && self.place - base < size as u64
     }
 
     /// Whether the segment lies within its region, and which refusal tells that it doesn't.

@@ -160,6 +160,16 @@ fn section_header(bytes: &[u8], index: usize) -> usize
     double_at(bytes, 40) as usize + SECTION_HEADER_SIZE * index
 }
 
+/// Whether a section is a symbol table.
+fn is_symbol_table(bytes: &[u8], index: usize) -> bool
+    requires header { 64 ≤ length bytes.now }
+    requires headers { has_section_headers bytes.now ≡ true }
+    requires below { index < e_shnum bytes.now }
+    ensures { result ≡ is_symbol_table bytes.now index }
+{
+    word_at(bytes, section_header(bytes, index) + 4) == SHT_SYMTAB
+}
+
 /// The index of the first section that is a symbol table.
 fn symbol_section(bytes: &[u8]) -> Option<usize>
     requires header { 64 ≤ length bytes.now }
@@ -168,7 +178,7 @@ fn symbol_section(bytes: &[u8]) -> Option<usize>
     ensures below { IfSome result (λ i. i < e_shnum bytes.now) }
 {
     for index in 0..usize::from(half_at(bytes, 60)) {
-        if word_at(bytes, section_header(bytes, index) + 4) == SHT_SYMTAB {
+        if is_symbol_table(bytes, index) {
             return Some(index);
         }
     }

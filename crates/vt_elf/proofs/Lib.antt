@@ -1,0 +1,3 @@
+mod Searching
+mod SegmentLemmas
+mod LoadingLemmas

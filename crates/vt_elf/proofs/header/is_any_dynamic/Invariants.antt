@@ -1,0 +1,8 @@
+use Rattle.std.proofs.Common.{◌≡◌, ℕ, None}
+use Rattle.vt_elf.specs.Symbols.{first_below}
+use Rattle.vt_elf.specs.Executables.{is_dynamic}
+use Rattle.vt_elf.proofs.header.is_any_dynamic.Given as goal
+
+-- none of the headers so far
+abbrev pub invariant-loop-index : goal.invariant-loop-index
+invariant-loop-index l = first_below (is_dynamic l.bytes) l.index ≡ None
