@@ -1,0 +1,7 @@
+use Rattle.std.proofs.Common.{◌≡◌, [], map, take}
+use Rattle.vt_model.specs.Sends.{with_requests}
+use Rattle.vt_guest.specs.Handlers.{recorded}
+use Rattle.vt_guest.proofs.requests.record_all.Given as goal
+
+abbrev pub invariant-notes : goal.invariant-notes
+invariant-notes l = l.out ≡ with_requests l.fn.out [] (map recorded (take l.note-index l.notes))

@@ -1,0 +1,6 @@
+pub mod Traps
+pub mod Calls
+pub mod Handling
+pub mod Handlers
+pub mod Laws
+pub mod Showing

@@ -1,0 +1,150 @@
+//! The run of a handler.
+
+ghost use Rattle.std.specs.Prelude.{◌≡◌, ◌≤◌, ℕ};
+ghost use Rattle.vt_stream.specs.Words.{word_of, moved};
+ghost use Rattle.vt_model.specs.Drawn.{drawn_in, stream_in, IsSameSource};
+ghost use Rattle.vt_model.specs.Handler.{IsUndrawn};
+ghost use Rattle.vt_model.specs.declared.limits.TheConstants.{MAX_DRAWS};
+ghost use Rattle.vt_guest.specs.Calls.{most_draws};
+ghost use Rattle.vt_guest.specs.Handling.{blank_stack, begun, turn_of, handled};
+
+use crate::calls::{Handling, Host, Next};
+use crate::process::Words;
+use crate::trap::{Reason, reason_of};
+use arrayvec::ArrayVec;
+use vt_model::Draws;
+use vt_riscv::{Code, Machine, RETURN, STACK, STATE, Stop};
+
+// The stack at the beginning of a handler.
+#[inline]
+fn blank_stack() -> [u8; STACK]
+    ensures { result ≡ blank_stack }
+{
+    [0; STACK]
+}
+
+impl<const SIZE: usize> Handling<SIZE> {
+    /// A handler at its beginning, with so many steps to make. Registers a0 to a4 have its arguments.
+    #[inline]
+    pub fn begin(
+        entry: u64,
+        fuel: u64,
+        lp: u32,
+        tick: u64,
+        priority: u8,
+        words: Words,
+        state: [u8; SIZE],
+    ) -> Self
+        ensures { result ≡ begun entry fuel lp tick priority words state.entry }
+    {
+        let registers = [
+            0,
+            RETURN,
+            STATE,
+            0,
+            0,
+            0,
+            0,
+            0,
+            0,
+            0,
+            u64::from(lp),
+            tick,
+            u64::from(priority),
+            words.a,
+            words.b,
+            0,
+            0,
+            0,
+            0,
+            0,
+            0,
+            0,
+            0,
+            0,
+            0,
+            0,
+            0,
+            0,
+            0,
+            0,
+            0,
+            0,
+        ];
+        Handling {
+            machine: Machine {
+                place: entry,
+                registers,
+                state,
+                stack: blank_stack(),
+            },
+            left: fuel,
+            drawn: 0,
+            sends: ArrayVec::new(),
+            notes: ArrayVec::new(),
+        }
+    }
+
+    // On to where the machine stops next. If it stops at a call, the call is made.
+    fn turn(&mut self, code: &Code, host: Host) -> Next
+        ensures next { result ≡ (turn_of code.now host self.old).next }
+        ensures handling { self.new ≡ (turn_of code.now host self.old).handling }
+    {
+        let outcome = self.machine.run(code, self.left);
+        self.left = outcome.left;
+        match outcome.stop {
+            Stop::Called => self.call(host),
+            Stop::Ended => Next::Ended,
+            Stop::Trapped(trap) => Next::Trapped(reason_of(trap)),
+            Stop::Spent => Next::Trapped(Reason::Spent),
+        }
+    }
+
+    /// Runs a handler to its end. An error tells why it trapped.
+    pub fn run(&mut self, code: &Code, host: Host, draws: &mut Draws<'_>) -> Result<(), Reason>
+        requires undrawn { IsUndrawn (drawn_in draws.old) (stream_in draws.old) }
+        requires fresh { self.old.drawn ≡ 0 }
+        ensures end { result ≡ (handled code.now host (word_of (stream_in draws.old)) self.old.left self.old).end }
+        ensures handling { self.new ≡ (handled code.now host (word_of (stream_in draws.old)) self.old.left self.old).handling }
+        ensures same_reference { IsSameSource draws.old draws.new }
+        ensures drawn { drawn_in draws.new ≡ self.new.drawn }
+        ensures stream { stream_in draws.new ≡ moved (stream_in draws.old) self.new.drawn }
+    {
+        let mut calls = self.left;
+        'calls: while calls > 0 {
+            calls -= 1;
+            match self.turn(code, host) {
+                Next::On => {}
+                Next::Draw => {
+                    if self.drawn >= host.handler.most_draws() {
+                        return Err(Reason::TooMany);
+                    }
+                    let word = draws.word();
+                    self.answer(word);
+                }
+                Next::Ended => return Ok(()),
+                Next::Trapped(reason) => return Err(reason),
+            }
+        }
+        Err(Reason::Spent)
+    }
+
+    /// Runs a handler that may draw nothing.
+    pub fn run_drawless(&mut self, code: &Code, host: Host) -> Result<(), Reason>
+        requires { most_draws host.handler ≡ 0 }
+        ensures end { (words : ℕ → ℕ) → result ≡ (handled code.now host words self.old.left self.old).end }
+        ensures handling { (words : ℕ → ℕ) → self.new ≡ (handled code.now host words self.old.left self.old).handling }
+    {
+        let mut calls = self.left;
+        'calls: while calls > 0 {
+            calls -= 1;
+            match self.turn(code, host) {
+                Next::On => {}
+                Next::Draw => return Err(Reason::TooMany),
+                Next::Ended => return Ok(()),
+                Next::Trapped(reason) => return Err(reason),
+            }
+        }
+        Err(Reason::Spent)
+    }
+}
