@@ -9,6 +9,8 @@ mod loading;
 mod refusal;
 mod segment;
 mod symbols;
+#[cfg(test)]
+mod tests;
 
 pub use executable::{Executable, read_executable};
 pub use refusal::Refusal;
