@@ -1,5 +1,5 @@
 -- What makes a file a static executable for 64-bit RISC-V, and what is wrong with one that isn't.
-use Rattle.std.specs.Prelude.{ℕ, ◌+◌, ◌*◌, ◌%◌, ◌≡◌, ◌&&◌, ◌||◌, Bool, true, not, length, nat_eq, nat_lt, nat_le, List, Option, Some, None, slice_index, if◌then◌else◌}
+use Rattle.std.specs.Prelude.{ℕ, ◌+◌, ◌*◌, ◌%◌, ◌≡◌, ◌&&◌, ◌||◌, Bool, true, not, length, nat_eq, nat_lt, nat_le, List, Option, None, slice_index}
 use Rattle.std.specs.Option.{option_or, is_some, IfSome}
 use Rattle.vt_elf.specs.Fields.{e_type, e_machine, e_version, e_phoff, e_flags, e_phentsize, e_phnum, program_header, p_type}
 use Rattle.vt_elf.specs.Segments.{loaded, segments_fault, unless}

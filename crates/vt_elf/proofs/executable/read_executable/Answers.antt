@@ -1,9 +1,8 @@
-use Rattle.std.proofs.Common.{◌≡◌, ◌+◌, ◌-◌, ◌<◌, ◌≤◌, ℕ, length, List, sym, ap, subst, ◌∙◌, arith}
-use Rattle.std.specs.List.{AllByRecursion}
-use Rattle.vt_elf.specs.Segments.{code_end, image_end, state_end, reach, IsApart}
+use Rattle.std.proofs.Common.{◌-◌, length, ap, ◌∙◌, arith}
+use Rattle.vt_elf.specs.Segments.{reach}
 use Rattle.vt_elf.specs.declared.segment.Region.TheVariants.{Code, Constants, State}
 use Rattle.vt_elf.specs.declared.segment.TheConstants.{IMAGE, STATE}
-use Rattle.vt_elf.proofs.SegmentLemmas.{IsSound, checked, ends_fit, ends_within, least_reach, apart_in_image, apart_in_state, code_ends, image_ends, state_ends}
+use Rattle.vt_elf.proofs.SegmentLemmas.{checked, ends_fit, least_reach, apart_in_image, apart_in_state, code_ends, image_ends, state_ends}
 use Rattle.vt_elf.proofs.executable.read_executable.Goals as goal
 
 pub reach-code_end-requires : goal.reach-code_end-requires

@@ -1,4 +1,4 @@
-use Rattle.std.proofs.Common.{◌≡◌, ℕ, None}
+use Rattle.std.proofs.Common.{◌≡◌, None}
 use Rattle.vt_elf.specs.Symbols.{first_below}
 use Rattle.vt_elf.specs.Executables.{is_dynamic}
 use Rattle.vt_elf.proofs.header.is_any_dynamic.Given as goal

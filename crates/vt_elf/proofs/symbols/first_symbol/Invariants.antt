@@ -1,4 +1,4 @@
-use Rattle.std.proofs.Common.{◌≡◌, ℕ, None}
+use Rattle.std.proofs.Common.{◌≡◌, None}
 use Rattle.vt_elf.specs.Symbols.{first_below, is_symbol}
 use Rattle.vt_elf.proofs.symbols.first_symbol.Given as goal
 
