@@ -1,0 +1,134 @@
+//! Runs short programs of RISC-V, one for each line of standard input, and prints what each comes to.
+//!
+//! A line has two numbers, for registers a0 and a1, and instructions of eight digits, or of four where they are compressed. All are
+//! hexadecimal. Registers sp, s0 and s1 hold the places of the state, of its middle and of the image, and the others are 0. Byte k of
+//! the state is 37 k + 11 modulo 256, and EBREAK stands behind the instructions. A line of the output has why the program stopped, at
+//! which place, what a2 holds then, and a sum of all registers, the stack and the state.
+#![tactic(auto)]
+
+use std::alloc::{AllocError, Global};
+use std::io;
+use std::string::String;
+use std::vec::Vec;
+use vt_riscv::{Code, IMAGE, Machine, Outcome, RETURN, STATE, Stop, Trap};
+
+// How many bytes the image has, and the state.
+const PAGE: usize = 4_096;
+
+// More steps than any of these programs makes.
+const FUEL: u64 = 100_000;
+
+const EBREAK: u32 = 0x10_0073;
+
+// A line: what a0 and a1 hold, and the bytes of the instructions.
+#[derive(Drop)]
+struct Line {
+    x: u64,
+    y: u64,
+    image: Vec<u8>,
+}
+
+fn hexadecimal(word: &str) -> u64 {
+    u64::from_str_radix(word, 16).unwrap_or(0)
+}
+
+// Puts an instruction behind the others.
+fn push(image: &mut Vec<u8>, word: &str) -> Result<(), AllocError> {
+    let length = if word.len() == 4 { 2 } else { 4 };
+    for byte in hexadecimal(word).to_le_bytes().iter().take(length) {
+        image.push(*byte)?;
+    }
+    Ok(())
+}
+
+// Fills the image: EBREAK behind the instructions, and zeros up to its end.
+fn fill(image: &mut Vec<u8>) -> Result<(), AllocError> {
+    for byte in EBREAK.to_le_bytes() {
+        image.push(byte)?;
+    }
+    for _ in image.len()..PAGE {
+        image.push(0)?;
+    }
+    Ok(())
+}
+
+fn read(alloc: Global, text: &str) -> Result<Line, AllocError> {
+    let mut words = text.split_ascii_whitespace();
+    let x = hexadecimal(words.next().unwrap_or(""));
+    let y = hexadecimal(words.next().unwrap_or(""));
+    let mut image = Vec::new(alloc);
+    for word in words {
+        push(&mut image, word)?;
+    }
+    fill(&mut image)?;
+    Ok(Line { x, y, image })
+}
+
+// The machine before the first instruction.
+fn machine(x: u64, y: u64) -> Machine<PAGE> {
+    let mut machine = Machine {
+        place: IMAGE,
+        registers: [0; 32],
+        state: [0; PAGE],
+        stack: [0; 1_024],
+    };
+    machine.registers[1] = RETURN;
+    machine.registers[2] = STATE;
+    machine.registers[8] = STATE + 2_048;
+    machine.registers[9] = IMAGE;
+    machine.registers[10] = x;
+    machine.registers[11] = y;
+    let mut value = 11_u8;
+    for byte in machine.state.iter_mut() {
+        *byte = value;
+        value = value.wrapping_add(37);
+    }
+    machine
+}
+
+// A sum in which each number and its place tell.
+fn sum(machine: &Machine<PAGE>) -> u64 {
+    let mut sum = 0_u64;
+    for number in machine.registers.iter() {
+        sum = sum.wrapping_mul(31).wrapping_add(*number);
+    }
+    for byte in machine.stack.iter().chain(machine.state.iter()) {
+        sum = sum.wrapping_mul(31).wrapping_add(u64::from(*byte));
+    }
+    sum
+}
+
+// Why a program stopped, in a word.
+fn word(outcome: Outcome) -> &'static str {
+    match outcome.stop {
+        Stop::Called => "called",
+        Stop::Ended => "ended",
+        Stop::Spent => "spent",
+        Stop::Trapped(Trap::BadJump) => "jump",
+        Stop::Trapped(Trap::BadInstruction) => "instruction",
+        Stop::Trapped(Trap::BadPlace) => "place",
+        Stop::Trapped(Trap::Breakpoint) => "breakpoint",
+    }
+}
+
+fn describe(alloc: Global, text: &str) -> Result<String, AllocError> {
+    let line = read(alloc, text)?;
+    let mut machine = machine(line.x, line.y);
+    let code = Code::new(alloc, line.image, PAGE, Vec::new(alloc), true)?;
+    let outcome = machine.run(&code, FUEL);
+    format!(in alloc;
+        "{} {:x} {:x} {:x}",
+        word(outcome),
+        machine.place,
+        machine.registers[12],
+        sum(&machine)
+    )
+}
+
+fn main(rt: HostRuntime) -> io::Result<()> {
+    for line in rt.lines(rt.alloc()) {
+        let text = describe(rt.alloc(), line?.as_str())?;
+        println!(rt; "{text}")?;
+    }
+    Ok(())
+}
