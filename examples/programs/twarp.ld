@@ -1,6 +1,7 @@
 /* The places of a program's parts in the memory of a handler: code and constants from 0x10000 on, the bytes of --data at
    0x20000000, and the state of the process at 0x40000000. Each part is a segment of the file. */
 ENTRY(start)
+EXTERN(start forward finish)
 
 PHDRS {
   code PT_LOAD FLAGS(5);
@@ -16,16 +17,16 @@ SECTIONS {
   data = 0x20000000;
 
   . = 0x10000;
-  .text : { KEEP(*(.text .text.unlikely .text.unlikely.* .text.hot .text.hot.* .text.startup)) *(.text.library.*) } :code
+  .text : { KEEP(*(.text)) *(.text.*) } :code
   ASSERT(SIZEOF(.text) <= 0x100000, "twarp: more than 1048576 bytes of code")
 
   . = ALIGN(16);
-  .rodata : { KEEP(*(.rodata .rodata.* .srodata .srodata.*)) } :constants
+  .rodata : { KEEP(*(.rodata .srodata .rodata.processes)) *(.rodata.* .srodata.* .data.rel.ro .data.rel.ro.*) } :constants
   ASSERT(. <= 0x1010000, "twarp: more than 16777216 bytes of code and constants")
 
   . = 0x40000000;
-  .data : { KEEP(*(.data .data.* .sdata .sdata.*)) } :state
-  .bss : { KEEP(*(.bss .bss.* .sbss .sbss.* COMMON)) } :state
+  .data : { *(.data .data.* .sdata .sdata.*) } :state
+  .bss : { *(.bss .bss.* .sbss .sbss.* COMMON) } :state
   ASSERT(. <= 0x40001000, "twarp: more than 4096 bytes of state (.data and .bss); make what never changes const")
 
   .symtab 0 : { *(.symtab) }
