@@ -22,7 +22,7 @@ enter_into-requires-clause-told g c κs within =
     let q : HeldProcess _ _ _ = c.index-processes-place.result in
     let at = slice_get-get_or processes c.args.place q c.requires.there ∙ ap Some (sym c.index-processes-place.is) in
     record {
-      own = c.ready-own.ensures ∙ sym (entry-there ready_of processes c.args.place q at);
+      own = c.ready-own.ensures.rank ∙ sym (entry-there ready_of processes c.args.place q at);
       all = record { asked = λ number less. search of_calls; told = λ number other less gives. search of_calls };
     }
 
