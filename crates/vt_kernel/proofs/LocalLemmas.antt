@@ -117,6 +117,25 @@ plain-done handlers new step outbox serial done = no-serial handlers new step ou
   serials = done.serials;
 })
 
+-- a process past the last one would have its place behind the worker's processes
+place-beyond : {S P K : Type 0} (held : HeldWorker S P K) (p : ℕ) → 1 ≤ held.config.workers → length held.processes ≡ (held.config.lps + (held.config.workers - 1) - held.worker) / held.config.workers
+    → held.config.lps ≤ p → p % held.config.workers ≡ held.worker → length held.processes ≤ p / held.config.workers
+place-beyond held p some all past own =
+    let beyond : (p / held.config.workers < length held.processes → ⊥) =
+    λ less. place-unknown held.config.lps held.config.workers held.worker p some past own (subst (λ n. p / held.config.workers < n) all less) in
+    omega (arith, beyond)
+
+-- what is none of the worker's processes isn't there
+pub unknown-none : {S P K : Type 0} (held : HeldWorker S P K) (p : ℕ) → 1 ≤ held.config.workers → length held.processes ≡ (held.config.lps + (held.config.workers - 1) - held.worker) / held.config.workers
+    → (p % held.config.workers ≡ held.worker → held.config.lps ≤ p) → process_of held p ≡ None
+unknown-none held p some all past =
+    elim (eqb_tells (p % held.config.workers) held.worker) [
+      | inl e ↦
+          ap (λ (b : Bool). if b then slice_get held.processes (p / held.config.workers) else None) e.0
+          ∙ slice_get_past held.processes (p / held.config.workers) (place-beyond held p some all (past e.1) e.1)
+      | inr e ↦ ap (λ (b : Bool). if b then slice_get held.processes (p / held.config.workers) else None) e.0
+    ]
+
 module _ {S P K : Type 0} (handlers : Handlers S P K) (held : HeldWorker S P K) (are : AreProcesses held.config held.worker 0 held.processes) (part : Part P) (h : StandsFor handlers held part) where
   -- a step at a place past the worker's processes is not lawful
   pub past-refused : (p : ℕ) (step : LogicalProcess P → Option (ProcessEffect P)) → length held.processes ≤ p / held.config.workers
@@ -131,10 +150,7 @@ module _ {S P K : Type 0} (handlers : Handlers S P K) (held : HeldWorker S P K) 
       → at_own (simulation_of handlers held.config) held.worker p (at_process step (p / held.config.workers) part) ≡ None
   unknown-refused p step some all past =
       elim (eqb_tells (p % held.config.workers) held.worker) [
-        | inl e ↦
-            (let beyond : (p / held.config.workers < length held.processes → ⊥) =
-            λ less. place-unknown held.config.lps held.config.workers held.worker p some (past e.1) e.1 (subst (λ n. p / held.config.workers < n) all less) in
-            past-refused p step (omega (arith, beyond)))
+        | inl e ↦ past-refused p step (place-beyond held p some all (past e.1) e.1)
         | inr e ↦ not-own (simulation_of handlers held.config) held.worker p (at_process step (p / held.config.workers) part) e.1
       ]
 

@@ -1,6 +1,9 @@
 -- What the calls of a worker answer and leave, by the steps of a world's part.
-use Rattle.std.specs.Prelude.{◌≡◌, ℕ, ◌⊎◌, ◌%◌, ◌^◌, true, false, List, ◌++◌, Option, Some, None, slice_set, slice_index_or}
+use Rattle.std.specs.Prelude.{◌≡◌, ℕ, ◌⊎◌, ◌%◌, ◌^◌, Bool, true, false, List, ◌++◌, Option, Some, None, slice_set, slice_index_or}
+use Rattle.std.specs.List.{last_or}
+use Rattle.std.specs.Option.{option_map_or}
 use Rattle.vt_key.specs.Times.{Time}
+use Rattle.vt_key.specs.declared.order.Stamp.{Stamp}
 use Rattle.vt_key.specs.declared.letter.Letter.{Letter}
 use Rattle.vt_key.specs.declared.letter.Mail.{Mail}
 use Rattle.vt_key.specs.declared.letter.Colour.{Colour}
@@ -13,9 +16,11 @@ use Rattle.vt_steps.specs.declared.step.Step.TheVariants.{Execute, Send}
 use Rattle.vt_steps.specs.World.{LogicalProcess, Part, letters_of_worker}
 use Rattle.vt_steps.specs.PartSteps.{part_after_send, process_after_commit}
 use Rattle.vt_steps.specs.CellSteps.{may_send}
+use Rattle.vt_steps.specs.ProcessSteps.{can_annihilate}
 use Rattle.vt_steps.specs.Cells.{local_steps}
 use Rattle.vt_lp.specs.Held.{HeldProcess, StandsFor as ProcessStandsFor}
-use Rattle.vt_kernel.specs.Held.{HeldWorker, StandsFor}
+use Rattle.vt_lp.specs.Past.{must_undo_last}
+use Rattle.vt_kernel.specs.Held.{HeldWorker, StandsFor, process_of}
 use Rattle.vt_kernel.specs.Local.{IsSettled, AreSettling, count_undos}
 use Rattle.vt_kernel.specs.Refusals.{PassesIn}
 
@@ -78,3 +83,12 @@ pub record HasForgotten {S P K : Type 0} (floor : Time) (place : ℕ) (old new :
   pub process : HeldProcess S P K
   pub forgotten : (d : HeldProcess S P K) → IsForgotten floor (slice_index_or old place d) process
   pub others : new ≡ slice_set old place process
+
+module _ {S P K : Type 0} (held : HeldWorker S P K) (p : ℕ) where
+  -- process p is one of the worker's, and a letter forces the undo of its last past event
+  abbrev pub has_to_undo : Bool
+  has_to_undo = option_map_or (λ process. must_undo_last process.pending process.waiting (last_or None process.past)) (process_of held p) false
+
+  -- process p is one of the worker's, and its letters of this stamp annihilate each other
+  abbrev pub may_annihilate : Stamp → Bool
+  may_annihilate stamp = option_map_or (λ process. can_annihilate stamp process.pending process.waiting) (process_of held p) false

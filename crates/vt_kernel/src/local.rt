@@ -1,12 +1,13 @@
 //! Local steps at one process: Execute, Undo and Cancel.
 
-ghost use Rattle.std.specs.Prelude.{ℕ, ◌≡◌, ◌%◌, ◌/◌, ◌<◌, ◌≤◌, ◌⊎◌, IfSome, IfNone, IfOk, IfErr, None};
+ghost use Rattle.std.specs.Prelude.{ℕ, ◌≡◌, ◌%◌, ◌/◌, ◌<◌, ◌≤◌, ◌⊎◌, IfSome, IfNone, IfOk, IfErr, None, true, false};
 ghost use Rattle.vt_key.specs.declared.fault.Fault.TheVariants.{Memory, NotLawful, Exhausted};
 ghost use Rattle.vt_model.specs.Handler.{Handlers};
 ghost use Rattle.vt_model.specs.Simulation.{simulation_of};
 ghost use Rattle.vt_steps.specs.World.{Part};
 ghost use Rattle.vt_steps.specs.declared.step.Step.TheVariants as step;
 ghost use Rattle.vt_kernel.specs.Held.{StandsFor, process_of};
+ghost use Rattle.vt_kernel.specs.Guards.{has_to_undo, may_annihilate};
 ghost use Rattle.vt_kernel.specs.Steps.{DoesStep, RefusesStep, RefusesExecute};
 ghost use Rattle.vt_kernel.specs.Refusals.{PassesIn};
 
@@ -87,7 +88,10 @@ impl<M: EventModel> Kernel<M> {
     pub fn undo(&mut self, model: &M, lp: u32) -> Result<(), Fault>
         ensures done { DoesStep (M.handlers model.now) self.old self.new (step.Undo lp) result }
         ensures refused { RefusesStep (M.handlers model.now) self.old (step.Undo lp) result }
+        ensures lawful { IfOk result (λ done. has_to_undo self.old lp ≡ true) }
+        ensures unlawful { IfErr result (λ fault. has_to_undo self.old lp ≡ false) }
         ensures kept { IfErr result (λ fault. (fault ≡ NotLawful) × (self.new ≡ self.old)) }
+        ensures others { (p : ℕ) → (p ≡ lp → ⊥) → process_of self.new p ≡ process_of self.old p }
         ensures same { (self.new.worker ≡ self.old.worker) × (self.new.config ≡ self.old.config) }
     {
         let Some(place) = place_of(self.config, self.worker, lp) else {
@@ -108,7 +112,10 @@ impl<M: EventModel> Kernel<M> {
     pub fn cancel(&mut self, lp: u32, stamp: Stamp) -> Result<(), Fault>
         ensures done { (handlers : Handlers _ _ _) → DoesStep handlers self.old self.new (step.Cancel lp stamp) result }
         ensures refused { (handlers : Handlers _ _ _) → RefusesStep handlers self.old (step.Cancel lp stamp) result }
+        ensures lawful { IfOk result (λ done. may_annihilate self.old lp stamp ≡ true) }
+        ensures unlawful { IfErr result (λ fault. may_annihilate self.old lp stamp ≡ false) }
         ensures kept { IfErr result (λ fault. (fault ≡ NotLawful) × (self.new ≡ self.old)) }
+        ensures others { (p : ℕ) → (p ≡ lp → ⊥) → process_of self.new p ≡ process_of self.old p }
         ensures same { (self.new.worker ≡ self.old.worker) × (self.new.config ≡ self.old.config) }
     {
         let Some(place) = place_of(self.config, self.worker, lp) else {

@@ -1,13 +1,15 @@
-use Rattle.std.proofs.Common.{rules, ◌≡◌, None, Some, slice_get, slice_set, List, sym, subst}
+use Rattle.std.proofs.Common.{rules, ◌≡◌, ◌∙◌, Bool, true, false, Option, None, Some, slice_get, slice_set, List, ap, sym, subst}
+use Rattle.std.specs.Option.{option_map_or}
+use Rattle.vt_key.specs.declared.order.Stamp.{Stamp}
 use Rattle.vt_model.specs.Simulation.{simulation_of}
-use Rattle.vt_steps.specs.ProcessSteps.{cancel_process}
+use Rattle.vt_steps.specs.ProcessSteps.{can_annihilate, cancel_process}
 use Rattle.vt_steps.specs.Cells.{local_step}
 use Rattle.vt_steps.specs.declared.step.Step.TheVariants as step
 use Rattle.vt_lp.specs.Held.{HeldProcess}
-use Rattle.vt_kernel.specs.Held.{HeldWorker, IsWorkerInside}
-use Rattle.vt_kernel.specs.Guards.{IsDone}
+use Rattle.vt_kernel.specs.Held.{HeldWorker, IsWorkerInside, process_of}
+use Rattle.vt_kernel.specs.Guards.{IsDone, may_annihilate}
 use Rattle.vt_kernel.proofs.PartLemmas.{stands_along}
-use Rattle.vt_kernel.proofs.LocalLemmas.{view_of, place-within, inside-changed, unknown-refused, changed-done, changed-refused, written-same}
+use Rattle.vt_kernel.proofs.LocalLemmas.{view_of, place-within, inside-changed, unknown-refused, unknown-none, changed-done, changed-refused, written-same, own-process, other-process}
 use Rattle.vt_kernel.proofs.ReentryLemmas.{process-there, may-enter}
 use Rattle.vt_kernel.proofs.kernel.Kernel.cancel.Given.{Over}
 use Rattle.vt_kernel.proofs.kernel.Kernel.cancel.Goals.{After-index_mut}
@@ -19,6 +21,10 @@ returns-in_default-clause-refused g c handlers part s =
     subst (λ (v : HeldWorker _ _ _). local_step (simulation_of handlers v.config) v.worker (step.Cancel c.args.lp c.args.stamp) part ≡ None) c.self.view_is
     (unknown-refused handlers (view_of i) c.self.invariant.own_processes part (stands_along c.self.view_is handlers part s)
     c.args.lp (cancel_process c.args.stamp) i.config.some_worker c.self.invariant.all_there c.in_default.ensures.other)
+
+-- whether the letters of a stamp annihilate each other at a process that may be there
+abbrev opposed : {S P K : Type 0} → Stamp → Option (HeldProcess S P K) → Bool
+opposed stamp o = option_map_or (λ (process : HeldProcess _ _ _). can_annihilate stamp process.pending process.waiting) o false
 
 pub index_mut-requires : goal.index_mut-requires
 index_mut-requires g c = search (rules, place-within c.self.invariant c.in-Some.ensures.own)
@@ -57,3 +63,31 @@ returns-clause-done g c handlers part s =
     subst (λ (v : HeldWorker _ _ _). IsDone handlers (record (view_of i) { processes = slice_set i.processes.items c.in-Some.place new }) (local_step (simulation_of handlers v.config) v.worker (step.Cancel c.args.lp c.args.stamp) part)) c.self.view_is
     (changed-done handlers (view_of i) c.self.invariant.own_processes part (stands_along c.self.view_is handlers part s)
     new (cancel_process c.args.stamp) c.in-Some.ensures.own (there g (goal.at.returns-clause-done g c).After-index_mut) (same.0, same.1) (c.in_default-cancel_into.ensures.done handlers))
+
+pub returns-in_default-clause-unlawful : goal.returns-in_default-clause-unlawful
+returns-in_default-clause-unlawful g c =
+    let i = c.self.inside in
+    subst (λ (v : HeldWorker _ _ _). may_annihilate v c.args.lp c.args.stamp ≡ false) c.self.view_is
+    (ap (opposed c.args.stamp) (unknown-none (view_of i) c.args.lp i.config.some_worker c.self.invariant.all_there c.in_default.ensures.other))
+
+pub returns-in-Err-clause-unlawful : goal.returns-in-Err-clause-unlawful
+returns-in-Err-clause-unlawful g c =
+    let at = there g (goal.at.returns-in-Err-clause-unlawful g c).After-index_mut in
+    subst (λ (v : HeldWorker _ _ _). may_annihilate v c.args.lp c.args.stamp ≡ false) c.self.view_is
+    (ap (opposed c.args.stamp) (own-process (view_of c.self.inside) c.in-Some.ensures.own at) ∙ c.in-Err.ensures.unlawful)
+
+pub returns-clause-lawful : goal.returns-clause-lawful
+returns-clause-lawful g c =
+    let at = there g (goal.at.returns-clause-lawful g c).After-index_mut in
+    subst (λ (v : HeldWorker _ _ _). may_annihilate v c.args.lp c.args.stamp ≡ true) c.self.view_is
+    (ap (opposed c.args.stamp) (own-process (view_of c.self.inside) c.in-Some.ensures.own at) ∙ c.in_default-cancel_into.ensures.lawful)
+
+pub returns-in-Err-clause-others : goal.returns-in-Err-clause-others
+returns-in-Err-clause-others g c p apart =
+    other-process (view_of c.self.inside) c.cancel_into.new.self c.self.inside.outbox.letters c.self.inside.serial p c.in-Some.ensures.own apart
+    ∙ ap (λ (v : HeldWorker _ _ _). process_of v p) c.self.view_is
+
+pub returns-clause-others : goal.returns-clause-others
+returns-clause-others g c p apart =
+    other-process (view_of c.self.inside) c.cancel_into.new.self c.self.inside.outbox.letters c.self.inside.serial p c.in-Some.ensures.own apart
+    ∙ ap (λ (v : HeldWorker _ _ _). process_of v p) c.self.view_is

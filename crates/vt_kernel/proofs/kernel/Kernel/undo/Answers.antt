@@ -1,14 +1,18 @@
-use Rattle.std.proofs.Common.{rules, ◌≡◌, ◌∙◌, IfOk, IfErr, None, Some, slice_get, slice_set, sym, subst, refl}
+use Rattle.std.proofs.Common.{rules, ◌≡◌, ◌∙◌, Bool, true, false, IfOk, IfErr, Option, None, Some, slice_get, slice_set, ap, sym, subst, refl}
+use Rattle.std.specs.List.{last_or}
+use Rattle.std.specs.Option.{option_map_or}
 use Rattle.std.proofs.lemmas.Result.{IfErr-weaker, IfOk-weaker}
 use Rattle.vt_model.specs.Simulation.{simulation_of}
 use Rattle.vt_steps.specs.ProcessSteps.{undo_process}
 use Rattle.vt_steps.specs.Cells.{local_step}
 use Rattle.vt_steps.specs.declared.step.Step.TheVariants as step
-use Rattle.vt_kernel.specs.Held.{HeldWorker}
-use Rattle.vt_kernel.specs.Guards.{IsDone}
+use Rattle.vt_kernel.specs.Held.{HeldWorker, process_of}
+use Rattle.vt_kernel.specs.Guards.{IsDone, has_to_undo}
+use Rattle.vt_lp.specs.Held.{HeldProcess}
+use Rattle.vt_lp.specs.Past.{must_undo_last}
 use Rattle.vt_kernel.proofs.PartLemmas.{stands_along}
 use Rattle.vt_kernel.proofs.OwnSteps.{refused-at}
-use Rattle.vt_kernel.proofs.LocalLemmas.{view_of, place-within, unknown-refused, found-at, at-found-done, no-serial}
+use Rattle.vt_kernel.proofs.LocalLemmas.{view_of, place-within, unknown-refused, unknown-none, found-at, at-found-done, no-serial, own-process, other-process}
 use Rattle.vt_kernel.proofs.PutLemmas.{put-done, put-seen, inside-put}
 use Rattle.vt_kernel.proofs.ReentryLemmas.{process-there, may-enter}
 use Rattle.vt_kernel.proofs.kernel.Kernel.undo.Given.{Over}
@@ -18,6 +22,10 @@ use Rattle.vt_kernel.proofs.kernel.Kernel.undo.Goals as goal
 -- the process is there
 there : (g : Over) (c : After-index_mut g) → slice_get c.self.inside.processes.items c.in-Some.place ≡ Some c.index_mut.result.now
 there g c = process-there c.self.invariant c.in-Some.ensures.own (sym c.index_mut.ensures.value)
+
+-- whether a process that may be there has to undo its last past event
+abbrev forced : {S P K : Type 0} → Option (HeldProcess S P K) → Bool
+forced o = option_map_or (λ (process : HeldProcess _ _ _). must_undo_last process.pending process.waiting (last_or None process.past)) o false
 
 pub index_mut-requires : goal.index_mut-requires
 index_mut-requires g c = search (rules, place-within c.self.invariant c.in-Some.ensures.own)
@@ -68,3 +76,26 @@ returns-clause-kept g c =
     let done = c.undo_into-result in
     let at = there g (goal.at.returns-clause-kept g c).After-index_mut in
     IfErr-weaker done.result _ _ (λ _ kept. (kept.0, put-seen i.outbox done.new.outbox c.new-sent.ensures c.put.ensures (view_of i) _ at refl kept.1 kept.2 refl ∙ c.self.view_is)) done.ensures.kept
+
+pub returns-in_default-clause-unlawful : goal.returns-in_default-clause-unlawful
+returns-in_default-clause-unlawful g c =
+    let i = c.self.inside in
+    subst (λ (v : HeldWorker _ _ _). has_to_undo v c.args.lp ≡ false) c.self.view_is
+    (ap forced (unknown-none (view_of i) c.args.lp i.config.some_worker c.self.invariant.all_there c.in_default.ensures.other))
+
+pub returns-clause-lawful : goal.returns-clause-lawful
+returns-clause-lawful g c =
+    let at = there g (goal.at.returns-clause-lawful g c).After-index_mut in
+    subst (λ (v : HeldWorker _ _ _). IfOk c.undo_into-result.result (λ _. has_to_undo v c.args.lp ≡ true)) c.self.view_is
+    (IfOk-weaker c.undo_into-result.result _ _ (λ _ is. ap forced (own-process (view_of c.self.inside) c.in-Some.ensures.own at) ∙ is) c.undo_into-result.ensures.lawful)
+
+pub returns-clause-unlawful : goal.returns-clause-unlawful
+returns-clause-unlawful g c =
+    let at = there g (goal.at.returns-clause-unlawful g c).After-index_mut in
+    subst (λ (v : HeldWorker _ _ _). IfErr c.undo_into-result.result (λ _. has_to_undo v c.args.lp ≡ false)) c.self.view_is
+    (IfErr-weaker c.undo_into-result.result _ _ (λ _ is. ap forced (own-process (view_of c.self.inside) c.in-Some.ensures.own at) ∙ is) c.undo_into-result.ensures.unlawful)
+
+pub returns-clause-others : goal.returns-clause-others
+returns-clause-others g c p apart =
+    other-process (view_of c.self.inside) c.undo_into-result.new.self c.put.new.self.letters c.self.inside.serial p c.in-Some.ensures.own apart
+    ∙ ap (λ (v : HeldWorker _ _ _). process_of v p) c.self.view_is
