@@ -2,6 +2,7 @@
 
 ghost use Rattle.std.specs.Prelude.{◌≡◌, ◌%◌, ◌^◌, length};
 ghost use Rattle.vt_steps.specs.Letters.{count_of};
+ghost use Rattle.vt_kernel.specs.Held.{AreCounted};
 
 use crate::counts::Counts;
 use std::marker::Model;
@@ -73,9 +74,10 @@ impl<M: EventModel> Kernel<M> {
         self.outbox.len()
     }
 
-    /// How many letters have arrived and are not accepted yet.
+    /// How many letters have arrived and are not accepted yet. No count of the mail that was got is past 2^63.
     pub fn arrived_len(&self) -> usize
-        ensures { result ≡ length self.now.arrived }
+        ensures arrived { result ≡ length self.now.arrived }
+        ensures counted { AreCounted self.now.got }
     {
         self.arrived.len()
     }

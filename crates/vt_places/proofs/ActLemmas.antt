@@ -17,7 +17,7 @@ use Rattle.vt_steps.specs.World.{Part}
 use Rattle.vt_steps.specs.PartSteps.{is_for, part_after_fetch}
 use Rattle.vt_steps.specs.CellSteps.{may_send}
 use Rattle.vt_steps.specs.Cells.{in_inbox}
-use Rattle.vt_kernel.specs.Held.{HeldWorker, StandsFor}
+use Rattle.vt_kernel.specs.Held.{HeldWorker, StandsFor, AreCounted}
 use Rattle.vt_kernel.specs.Refusals.{PassesIn}
 use Rattle.vt_places.specs.declared.view.View.{View}
 use Rattle.vt_cells.specs.Calls.{Acts}
@@ -66,10 +66,16 @@ fetches-nothing handlers config w k empty = record {
   config_is = refl;
 }
 
--- it takes no count past its limit
-pub nothing-passes : {S P K : Type 0} (handlers : Handlers S P K) (config : Config) (w : ℕ) (k : HeldWorker S P K) (part new : Part P) → StandsFor handlers k part → StandsFor handlers k new
-    → PassesIn (simulation_of handlers config) (Fetch w) new 0 → PassesIn (simulation_of handlers config) (Fetch w) part 0
-nothing-passes handlers config w k part new was is past = subst (λ (n : Counts). (MAX_COUNT < n.white) ⊎ (MAX_COUNT < n.red)) (is.got ∙ sym was.got) past
+-- after it no count is past its limit
+pub nothing-passes : {S P K : Type 0} (handlers : Handlers S P K) (config : Config) (w : ℕ) (k : HeldWorker S P K) → AreCounted k.got → (part : Part P) → StandsFor handlers k part
+    → PassesIn (simulation_of handlers config) (Fetch w) part 0 → ⊥
+nothing-passes handlers config w k counted part stands past =
+    let few_white = counted.white in
+    let few_red = counted.red in
+    elim (subst (λ (n : Counts). (MAX_COUNT < n.white) ⊎ (MAX_COUNT < n.red)) stands.got past) [
+      | inl white ↦ omega (arith, white, few_white)
+      | inr red ↦ omega (arith, red, few_red)
+    ]
 
 module _ {S P K : Type 0} {handlers : Handlers S P K} {config : Config} {view : View P} {k : HeldWorker S P K} (r : Reaches handlers config view k) where
   -- the kernel of a place sends to a worker of the run

@@ -68,15 +68,13 @@ module _ {S P K : Type 0} (handlers : Handlers S P K) (config : Config) (lawful 
         },
       ))
 
-  -- whatever parts a kernel stood for and stands for now, no counter is past its limit that wasn't so before
-  abbrev AreWithin : Step → HeldWorker S P K → Cell P → HeldWorker S P K → Cell P → Type 0
-  AreWithin step before found left now =
-      let sim = simulation_of handlers config in
-      (part new : Part P) → StandsFor handlers before part → StandsFor handlers left new → PassesIn sim step new (rounds_of now) → PassesIn sim step part (rounds_of found)
+  -- whatever part a kernel stands for now, no counter that the step raises is past its limit
+  abbrev AreWithin : Step → HeldWorker S P K → Cell P → Type 0
+  AreWithin step left now = (part : Part P) → StandsFor handlers left part → PassesIn (simulation_of handlers config) step part (rounds_of now) → ⊥
 
   -- what local steps and then one step at the cell leave of the view, where the cell had this in it
   visited-at : (k : ℕ) (v : View P) (found now : Cell P) (before left : HeldWorker S P K) (step : Step) (reply : Reply) → IsAny (cell_of (simulation_of handlers config) step) (cell_at config.workers k)
-      → (does : Acts handlers config step reply before found left now) → AreWithin step before found left now → (way : Reaches handlers config v before) (known : Known (simulation_of handlers config) v k found)
+      → (does : Acts handlers config step reply before found left now) → AreWithin step left now → (way : Reaches handlers config v before) (known : Known (simulation_of handlers config) v k found)
       → Visited handlers config v before step reply left v.seen (record v {
         part = (does.acts way.part way.stands).0;
         mine = v.mine ++ (made_done way.steps ++ record { step = step; reply = reply } ∷ []);
@@ -95,7 +93,7 @@ module _ {S P K : Type 0} (handlers : Handlers S P K) (config : Config) (lawful 
           at = record { cell = k; about = at; found = found; now = now; known = known; gives = a.1; log = refl };
           does = does;
           stands = a.2;
-          within = within way.part a.0 way.stands a.2;
+          within = within a.0 a.2;
         };
         same = record { worker = refl; made = refl; waiting = refl };
         floor = refl;
@@ -106,7 +104,7 @@ module _ {S P K : Type 0} (handlers : Handlers S P K) (config : Config) (lawful 
   pub leaves-visited : (slots id k x : ℕ) (m : Sat P) (found now : Cell P) (before left : HeldWorker S P K) (step : Step) (reply : Reply) → k < cell_count config.workers
       → x ≢ claimed_word → (x ≡ empty_word → now ≡ in_inbox [])
       → IsAny (worker_of (simulation_of handlers config) step) m.0.worker → IsAny (cell_of (simulation_of handlers config) step) (cell_at config.workers k)
-      → Holding config m k found now → Acts handlers config step reply before found left now → AreWithin step before found left now → Reaches handlers config m.0 before
+      → Holding config m k found now → Acts handlers config step reply before found left now → AreWithin step left now → Reaches handlers config m.0 before
       → Allows (IsTableRight (simulation_of handlers config) config) slots id m (word_at k) (λ _. x) (λ _. (λ (n : ℕ) (after : Sat P). GaveBack m after × Visited handlers config m.0 before step reply left m.0.seen after.0) x)
   leaves-visited slots id k x m found now before left step reply near home empty whose at h does within way =
       let sim = simulation_of handlers config in
@@ -127,7 +125,7 @@ module _ {S P K : Type 0} (handlers : Handlers S P K) (config : Config) (lawful 
       → Allows (IsTableRight (simulation_of handlers config) config) slots id m (word_at k) (λ _. x)
       (λ _. (λ (n : ℕ) (after : Sat P). GaveBack m after × MatchResult answer (λ reply. Visited handlers config m.0 before step reply left m.0.seen after.0) (λ _. Unvisited m.0 m.0.seen after.0)) x)
   leaves-tried slots id k x m found now before left step (Ok reply) near home empty whose at h tried way =
-      leaves-visited slots id k x m found now before left step reply near home empty whose at h tried.done (λ part new was is past. absurd (tried.within new is past)) way
+      leaves-visited slots id k x m found now before left step reply near home empty whose at h tried.done tried.within way
   leaves-tried slots id k x m found now before left step (Err fault) near home empty whose at h tried way =
       let same = tried.unchanged.1 in
       leaves-unvisited slots id k x m None found near home (λ e. sym same ∙ empty e) (subst (λ c. Holding config m k found c) same h) tt
@@ -135,7 +133,7 @@ module _ {S P K : Type 0} (handlers : Handlers S P K) (config : Config) (lawful 
   -- at a load that finds an inbox empty, after local steps and one step that finds it so and leaves it so
   pub leaves-looked : (slots id k : ℕ) (m : Sat P) (before left : HeldWorker S P K) (step : Step) (reply : Reply) → k < config.workers → Rests m
       → IsAny (worker_of (simulation_of handlers config) step) m.0.worker → IsAny (cell_of (simulation_of handlers config) step) (cell_at config.workers k)
-      → Acts handlers config step reply before (in_inbox []) left (in_inbox []) → AreWithin step before (in_inbox []) left (in_inbox []) → Reaches handlers config m.0 before
+      → Acts handlers config step reply before (in_inbox []) left (in_inbox []) → AreWithin step left (in_inbox []) → Reaches handlers config m.0 before
       → Allows (IsTableRight (simulation_of handlers config) config) slots id m (word_at k) (λ n. n) (Looked m (λ after. (after.1 ≡ []) × Visited handlers config m.0 before step reply left m.0.seen after.0))
   leaves-looked slots id k m before left step reply near rests whose at does within way =
       let sim = simulation_of handlers config in

@@ -137,8 +137,8 @@ module _ {S P K : Type 0} (handlers : Handlers S P K) (config : Config) where
     pub at : IsDoneAt (simulation_of handlers config) v steps part step reply w
     pub does : Acts handlers config step reply before at.found left at.now
     pub stands : StandsFor handlers left w.part
-    -- the step takes no counter past its limit: one that is past it now was so before
-    pub within : PassesIn (simulation_of handlers config) step w.part (rounds_of at.now) → PassesIn (simulation_of handlers config) step part (rounds_of at.found)
+    -- no counter that the step raises is past its limit
+    pub within : PassesIn (simulation_of handlers config) step w.part (rounds_of at.now) → ⊥
 
   -- the same, and the place holds nothing and was shown this floor
   pub record Visited (v : View P) (before : HeldWorker S P K) (step : Step) (reply : Reply) (left : HeldWorker S P K) (seen : Time) (w : View P) : Type 0 where

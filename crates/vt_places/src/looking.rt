@@ -9,6 +9,7 @@ ghost use Rattle.vt_steps.specs.Finals.{worker_finals};
 ghost use Rattle.vt_steps.specs.declared.step.Step.TheVariants as step;
 ghost use Rattle.vt_steps.specs.declared.step.Reply.TheVariants as reply;
 ghost use Rattle.vt_steps.specs.Letters.{is_empty};
+ghost use Rattle.vt_kernel.specs.Held.{AreCounted};
 ghost use Rattle.vt_places.specs.Kept.{Rests};
 ghost use Rattle.vt_places.specs.Told.{station_model, station_config, station_run, station_table, place_table, place_worker, place_view};
 ghost use Rattle.vt_places.specs.Calls.{IsShown, Reaches, Visited};
@@ -39,6 +40,7 @@ impl<M: EventModel> Station<M> {
         requires worker { seat.old.me.0.worker ≡ worker }
         requires known { worker < self.now.workers }
         requires accepted { is_empty kernel.now.arrived ≡ true }
+        requires counted { AreCounted kernel.now.got }
         requires kernel { Reaches (M.handlers (station_model self.now)) (station_config self.now) seat.old.me.0 kernel.now }
         ensures same { (seat.new.table_id ≡ seat.old.table_id) × (seat.new.id ≡ seat.old.id) × Rests seat.new.me }
         ensures done { result ≡ true → Visited (M.handlers (station_model self.now)) (station_config self.now) seat.old.me.0 kernel.now (step.Fetch worker) reply.Done kernel.now seat.old.me.0.seen seat.new.me.0 }

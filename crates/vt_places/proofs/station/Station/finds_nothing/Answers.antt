@@ -15,4 +15,4 @@ load-requires-clause-allowed g c κs within lawful =
     let k = c.args.kernel.now in
     let counted = c.args.self.now.counted in
     let near : w < key.config.workers = (let n = c.requires.known in omega arith) in
-    leaves-looked H key.config lawful c.args.self.now.table.shared.table_id.slots c.args.seat.now.id w m k k (Fetch w) Done near c.requires.rests (sym c.requires.worker) (sym (inbox-name key.config.workers w near)) (fetches-nothing H key.config w k c.requires.accepted) (nothing-passes H key.config w k) c.requires.kernel
+    leaves-looked H key.config lawful c.args.self.now.table.shared.table_id.slots c.args.seat.now.id w m k k (Fetch w) Done near c.requires.rests (sym c.requires.worker) (sym (inbox-name key.config.workers w near)) (fetches-nothing H key.config w k c.requires.accepted) (nothing-passes H key.config w k c.requires.counted) c.requires.kernel
