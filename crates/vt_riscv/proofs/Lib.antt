@@ -1,1 +1,2 @@
+pub mod AlignmentLemmas
 pub mod RunLemmas

@@ -65,7 +65,15 @@ pub struct Machine<const N: usize> {
 fn is_misaligned(code: &Code, place: u64) -> bool
     ensures { result ≡ is_misaligned code.now place }
 {
-    place % (if code.compressed { 2 } else { 4 }) != 0
+    // The first test is the usual one.
+    if place % 4 == 0 {
+        return false;
+    }
+    if code.compressed {
+        place % 2 != 0
+    } else {
+        true
+    }
 }
 
 // The instruction at a place, if one may stand there.
@@ -151,7 +159,7 @@ impl<const N: usize> Machine<N> {
     }
 
     // What lies at a place, if all of it lies in one part of memory.
-    #[inline]
+    #[inline(always)]
     fn load_from(&self, code: &Code, size: Size, at: u64) -> Option<u64>
         ensures { result ≡ loaded_from code.now self.now size at }
     {
@@ -169,7 +177,7 @@ impl<const N: usize> Machine<N> {
     }
 
     // Puts a number from memory into a register.
-    #[inline]
+    #[inline(always)]
     fn load(&mut self, code: &Code, i: Instruction, at: u64, size: Size) -> Option<Stop>
         ensures stop { result ≡ (loaded code.now self.old i size at).stop }
         ensures machine { self.new ≡ (loaded code.now self.old i size at).machine }
@@ -181,7 +189,7 @@ impl<const N: usize> Machine<N> {
     }
 
     // The same of a number with a sign.
-    #[inline]
+    #[inline(always)]
     fn load_signed(&mut self, code: &Code, i: Instruction, at: u64, size: Size) -> Option<Stop>
         ensures stop { result ≡ (loaded_signed code.now self.old i size at).stop }
         ensures machine { self.new ≡ (loaded_signed code.now self.old i size at).machine }
@@ -193,7 +201,7 @@ impl<const N: usize> Machine<N> {
     }
 
     // Puts a number into memory.
-    #[inline]
+    #[inline(always)]
     fn store(&mut self, i: Instruction, at: u64, v: u64, size: Size) -> Option<Stop>
         ensures stop { result ≡ (stored_at self.old i size at v).stop }
         ensures machine { self.new ≡ (stored_at self.old i size at v).machine }

@@ -14,7 +14,7 @@ pub(crate) enum Size {
 }
 
 /// How many bytes these are.
-#[inline]
+#[inline(always)]
 pub(crate) fn width(size: Size) -> u64
     ensures { result ≡ width size }
 {
@@ -27,7 +27,7 @@ pub(crate) fn width(size: Size) -> u64
 }
 
 /// The number of 16 bits that lies at a place, its low byte first.
-#[inline]
+#[inline(always)]
 pub(crate) fn half(bytes: &[u8], at: usize) -> u16
     requires { at + 2 ≤ length bytes.now }
     ensures { result ≡ number_at Half bytes.now at }
@@ -36,7 +36,7 @@ pub(crate) fn half(bytes: &[u8], at: usize) -> u16
 }
 
 /// The number of 32 bits that lies at a place, its low byte first.
-#[inline]
+#[inline(always)]
 pub(crate) fn word(bytes: &[u8], at: usize) -> u32
     requires { at + 4 ≤ length bytes.now }
     ensures { result ≡ number_at Word bytes.now at }
@@ -45,7 +45,7 @@ pub(crate) fn word(bytes: &[u8], at: usize) -> u32
 }
 
 /// The number that lies at a place, its low byte first.
-#[inline]
+#[inline(always)]
 fn number(bytes: &[u8], at: usize, size: Size) -> u64
     requires { at + width size ≤ length bytes.now }
     ensures { result ≡ number_at size bytes.now at }
@@ -68,7 +68,7 @@ fn number(bytes: &[u8], at: usize, size: Size) -> u64
 }
 
 /// The number that lies at a place, if all of it does.
-#[inline]
+#[inline(always)]
 pub(crate) fn number_within(bytes: &[u8], at: u64, size: Size) -> Option<u64>
     ensures { result ≡ number_within size bytes.now at }
 {
@@ -81,7 +81,7 @@ pub(crate) fn number_within(bytes: &[u8], at: u64, size: Size) -> Option<u64>
 }
 
 /// Puts a number at a place, its low byte first.
-#[inline]
+#[inline(always)]
 pub(crate) fn store(bytes: &mut [u8], at: usize, size: Size, v: u64)
     requires { at + width size ≤ length bytes.old }
     ensures { bytes.new ≡ stored size bytes.old at v }
@@ -97,7 +97,7 @@ pub(crate) fn store(bytes: &mut [u8], at: usize, size: Size, v: u64)
 }
 
 /// A number from memory as 64 bits, by its sign.
-#[inline]
+#[inline(always)]
 pub(crate) fn extended(size: Size, v: u64) -> u64
     ensures { result ≡ extended size v }
 {
