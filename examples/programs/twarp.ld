@@ -45,5 +45,5 @@ SECTIONS {
   .debug_frame 0 : { *(.debug_frame) }
   .debug_loc 0 : { *(.debug_loc) }
   .debug_ranges 0 : { *(.debug_ranges) }
-  /DISCARD/ : { *(.comment .note .note.* .riscv.attributes .eh_frame .eh_frame_hdr .llvm_addrsig .gnu.build.attributes*) }
+  /DISCARD/ : { *(.rela.* .comment .note .note.* .riscv.attributes .eh_frame .eh_frame_hdr .llvm_addrsig .gnu.build.attributes*) }
 }
