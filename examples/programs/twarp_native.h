@@ -190,7 +190,7 @@ static void twarp_block(u64 seed, u64 block, u64 stream, u32 words[16]) {
 
 u32 word(void) {
   struct twarp_run *run = &twarp_run;
-  if (run->handler == TWARP_FINISH) twarp_trap(TWARP_BAD_CALL, "a draw");
+  if (run->handler == TWARP_FINISH) twarp_trap(TWARP_TOO_MANY, "a draw");
   if (run->draw_count == TWARP_MOST_DRAWS) twarp_trap(TWARP_TOO_MANY, "a 65th draw");
   run->draw_count++;
   struct twarp_process *process = &run->processes[run->lp];
@@ -209,11 +209,11 @@ u64 below(u64 n) {
 
 void send(u32 dest, u64 delay, u32 priority, u64 a, u64 b) {
   struct twarp_run *run = &twarp_run;
-  if (run->handler == TWARP_FINISH) twarp_trap(TWARP_BAD_CALL, "a send");
-  if (run->send_count == TWARP_MOST_SENDS) twarp_trap(TWARP_TOO_MANY, "a 17th send");
+  if (run->handler == TWARP_FINISH) twarp_trap(TWARP_BAD_SEND, "a send");
   if (dest >= run->lps) twarp_trap(TWARP_BAD_SEND, "a send to a process that isn't there");
   if (priority > 255) twarp_trap(TWARP_BAD_SEND, "a send with a priority above 255");
   if (delay == 0 && priority <= run->priority) twarp_trap(TWARP_BAD_SEND, "a send that isn't later than now");
+  if (run->send_count == TWARP_MOST_SENDS) twarp_trap(TWARP_TOO_MANY, "a 17th send");
   // One at or past the end has a number, but never happens.
   u64 tick = delay < run->end - run->tick ? run->tick + delay : run->end;
   run->sends[run->send_count++] = (struct twarp_event){tick, 0, a, b, priority, run->lp, dest};
@@ -221,13 +221,16 @@ void send(u32 dest, u64 delay, u32 priority, u64 a, u64 b) {
 
 void emit(u32 kind, u64 value) {
   struct twarp_run *run = &twarp_run;
-  if (run->handler != TWARP_FORWARD) twarp_trap(TWARP_BAD_CALL, "a record outside forward");
   if (kind == TWARP_TRAPPED) twarp_trap(TWARP_BAD_CALL, "a record of kind 4294967295");
+  if (run->handler != TWARP_FORWARD) twarp_trap(TWARP_TOO_MANY, "a record outside forward");
   if (run->record_count == TWARP_MOST_RECORDS) twarp_trap(TWARP_TOO_MANY, "a 5th record");
   run->records[run->record_count++] = (struct twarp_record){kind, value};
 }
 
-u32 lps(void) { return (u32)twarp_run.lps; }
+u32 lps(void) {
+  if (twarp_run.handler == TWARP_FINISH) twarp_trap(TWARP_BAD_CALL, "lps");
+  return (u32)twarp_run.lps;
+}
 
 u64 data_size(void) { return twarp_run.data_bytes; }
 
