@@ -1,5 +1,5 @@
 -- The symbol table of a file, and the symbols of a name.
-use Rattle.std.specs.Prelude.{ℕ, ◌+◌, ◌*◌, ◌/◌, ◌%◌, ◌&&◌, ◌||◌, ◌≡◌, ◌<◌, zero, suc, Bool, true, not, length, drop, nat_eq, nat_lt, nat_le, List, Option, Some, None, slice_index, if◌then◌else◌}
+use Rattle.std.specs.Prelude.{ℕ, ◌+◌, ◌*◌, ◌/◌, ◌%◌, ◌&&◌, ◌||◌, ◌≡◌, ◌<◌, zero, suc, Bool, true, not, length, drop, nat_eq, nat_lt, nat_le, List, Option, Some, None, option_map, slice_index, if◌then◌else◌}
 use Rattle.std.specs.Option.{option_or}
 use Rattle.std.specs.List.{starts_with, slice_range}
 use Rattle.vt_elf.specs.Fields.{e_shnum, e_shoff, e_shentsize, section_header, sh_type, sh_offset, sh_size, sh_link, sh_entsize, st_name, st_info, st_shndx, st_value, st_size}
@@ -7,6 +7,7 @@ use Rattle.vt_elf.specs.Segments.{unless}
 use Rattle.vt_elf.specs.declared.refusal.Refusal.{Refusal}
 use Rattle.vt_elf.specs.declared.refusal.Refusal.TheVariants.{NoSymbols, DamagedSymbols}
 use Rattle.vt_elf.specs.declared.symbols.Object.{Object}
+use Rattle.vt_elf.specs.declared.symbols.Symbols.{Symbols}
 use Rattle.vt_elf.specs.declared.symbols.SymbolKind.{SymbolKind}
 use Rattle.vt_elf.specs.declared.symbols.SymbolKind.TheVariants.{Function, DataObject}
 
@@ -88,3 +89,10 @@ first_symbol table names kind name = first_below (is_symbol table names kind nam
 -- where an object lies, and its size
 abbrev pub object_at : List ℕ → ℕ → Object
 object_at table at = record { place = st_value table at; size = st_size table at }
+
+-- the place of the function of a name, and the object of a name
+abbrev pub function_named : Symbols → List ℕ → Option ℕ
+function_named symbols name = option_map (λ i. st_value symbols.table.items (24 * i)) (first_symbol symbols.table.items symbols.names.items Function name)
+
+abbrev pub object_named : Symbols → List ℕ → Option Object
+object_named symbols name = option_map (λ i. object_at symbols.table.items (24 * i)) (first_symbol symbols.table.items symbols.names.items DataObject name)

@@ -1,9 +1,8 @@
 //! The symbol table, and where a name leads.
 
-ghost use Rattle.std.specs.Prelude.{◌≡◌, ◌+◌, ◌*◌, ◌<◌, ◌≤◌, IfSome, MatchResult, Some, length, option_map, true};
-ghost use Rattle.vt_elf.specs.Fields.{e_shnum, section_header, st_value};
-ghost use Rattle.vt_elf.specs.declared.symbols.SymbolKind.TheVariants.{Function, DataObject};
-ghost use Rattle.vt_elf.specs.Symbols.{is_symbol_table, symbol_section, section_bytes, is_in_file, names_section, is_sound_table, symbols_fault, is_of_kind, is_name_at, is_symbol, first_symbol, has_section_headers, object_at, IsTable};
+ghost use Rattle.std.specs.Prelude.{◌≡◌, ◌+◌, ◌*◌, ◌<◌, ◌≤◌, IfSome, MatchResult, Some, length, true};
+ghost use Rattle.vt_elf.specs.Fields.{e_shnum, section_header};
+ghost use Rattle.vt_elf.specs.Symbols.{is_symbol_table, symbol_section, section_bytes, is_in_file, names_section, is_sound_table, symbols_fault, is_of_kind, is_name_at, is_symbol, first_symbol, function_named, object_named, has_section_headers, object_at, IsTable};
 
 use crate::fields::{double_at, half_at, is_inside, word_at};
 use crate::refusal::Refusal;
@@ -47,7 +46,7 @@ impl Symbols {
     /// The place of the first defined symbol of this name that is a function or has no type, whether it is local, global or
     /// weak; `None` where there is none.
     pub fn place_of(&self, name: &[u8]) -> Option<u64>
-        ensures { result ≡ option_map (λ i. st_value self.now.table.items (24 * i)) (first_symbol self.now.table.items self.now.names.items Function name.now) }
+        ensures { result ≡ function_named self.now name.now }
     {
         let index = first_symbol(&self.table, &self.names, SymbolKind::Function, name)?;
         Some(double_at(&self.table, SYMBOL_SIZE * index + 8))
@@ -56,7 +55,7 @@ impl Symbols {
     /// The place and the size of the first defined symbol of this name that is an object, whether it is local, global or weak;
     /// `None` where there is none.
     pub fn object(&self, name: &[u8]) -> Option<Object>
-        ensures { result ≡ option_map (λ i. object_at self.now.table.items (24 * i)) (first_symbol self.now.table.items self.now.names.items DataObject name.now) }
+        ensures { result ≡ object_named self.now name.now }
     {
         let index = first_symbol(&self.table, &self.names, SymbolKind::DataObject, name)?;
         Some(object_at(&self.table, SYMBOL_SIZE * index))
