@@ -1,5 +1,5 @@
 -- What the handlers of a program give.
-use Rattle.std.specs.Prelude.{ℕ, ◌-◌, ◌^◌, nat_eq, if◌then◌else◌, List, [], ◌∷◌, ◌++◌, length, map, replicate, take, Result, Ok, Err}
+use Rattle.std.specs.Prelude.{ℕ, ◌-◌, ◌^◌, nat_eq, nat_le, if◌then◌else◌, List, [], ◌∷◌, ◌++◌, length, map, replicate, take, Result, Ok, Err}
 use Rattle.vt_key.specs.Times.{Time, ticks_of, priority_of}
 use Rattle.vt_model.specs.Handler.{Handlers, StartResult, ForwardResult}
 use Rattle.vt_model.specs.Sends.{SendRequest, RecordRequest}
@@ -13,6 +13,8 @@ use Rattle.vt_guest.specs.declared.calls.Note.{Note}
 use Rattle.vt_guest.specs.declared.calls.Handling.{Handling}
 use Rattle.vt_guest.specs.declared.process.Words.{Words}
 use Rattle.vt_guest.specs.declared.process.Process.{Process}
+use Rattle.vt_guest.specs.declared.process.StateSize.{StateSize}
+use Rattle.vt_guest.specs.declared.process.StateSize.TheVariants.{Bytes64, Bytes256, Bytes1024, Bytes4096}
 use Rattle.vt_guest.specs.declared.guest.Program.{Program}
 use Rattle.vt_guest.specs.declared.guest.Guest.{Guest}
 use Rattle.vt_guest.specs.Traps.{trap_value}
@@ -22,6 +24,10 @@ use Rattle.vt_guest.specs.Handling.{Handled, begun, handled}
 -- so many bytes: these, and zeros behind them
 abbrev pub padded : ℕ → List ℕ → List ℕ
 padded n bytes = take n bytes ++ replicate (n - length bytes) 0
+
+-- the size of a state that holds so many bytes
+abbrev pub state_size_of : ℕ → StateSize
+state_size_of n = if nat_le n 64 then Bytes64 else (if nat_le n 256 then Bytes256 else (if nat_le n 1024 then Bytes1024 else Bytes4096))
 
 -- a send and a record that a program asks for, as the simulator sees them
 abbrev pub asked : Request → SendRequest Words

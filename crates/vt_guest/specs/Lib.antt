@@ -4,3 +4,4 @@ pub mod Handling
 pub mod Handlers
 pub mod Laws
 pub mod Showing
+pub mod Loading

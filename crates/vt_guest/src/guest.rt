@@ -1,10 +1,10 @@
 //! The model.
 
 ghost use Rattle.std.specs.Prelude.{◌≡◌, length};
-ghost use Rattle.vt_guest.specs.Handlers.{padded, host_of};
+ghost use Rattle.vt_guest.specs.Handlers.{padded, state_size_of, host_of};
 
 use crate::calls::{Handler, Handling, Host};
-use crate::process::{Class, Process, Words};
+use crate::process::{Class, Process, StateSize, Words};
 use crate::requests::{record_all, send_all};
 use crate::trap::{TRAP, trap_value};
 use vt_key::When;
@@ -38,6 +38,18 @@ pub struct Guest<const SIZE: usize> {
 }
 
 impl Program {
+    /// The least size that holds the first state, or the largest size where none does.
+    pub fn state_size(&self) -> StateSize
+        ensures { result ≡ state_size_of (length self.now.first.items) }
+    {
+        match self.first.len() {
+            0..=64 => StateSize::Bytes64,
+            65..=256 => StateSize::Bytes256,
+            257..=1_024 => StateSize::Bytes1024,
+            _ => StateSize::Bytes4096,
+        }
+    }
+
     // What a handler of this program is told.
     fn host(&self, handler: Handler, lps: u32, priority: u8) -> Host
         ensures { result ≡ host_of self.now handler lps priority }

@@ -4,12 +4,14 @@
 mod calls;
 mod guest;
 mod handling;
+mod loading;
 mod process;
 mod requests;
 mod theorem;
 mod trap;
 
 pub use guest::{Guest, Program};
-pub use process::{Class, Process, Words};
+pub use loading::{Loaded, MAX_DATA, ObjectFault, Refusal, Set, load};
+pub use process::{Class, Process, StateSize, Words};
 pub use theorem::{failed_starts_show, traps_are_results};
 pub use trap::{Reason, TRAP};

@@ -16,7 +16,16 @@ pub struct Process<const SIZE: usize> {
     pub failed: u64,
 }
 
-/// A size of states that a model may have: the states are implemented for 64, 256, 1,024 and 4,096 bytes.
+/// The sizes that a state may have.
+#[derive(Debug, Clone, Copy, PartialEq, Eq)]
+pub enum StateSize {
+    Bytes64,
+    Bytes256,
+    Bytes1024,
+    Bytes4096,
+}
+
+/// A state of a size that a model may have: one of [`StateSize`].
 pub trait Class {
     ghost use Rattle.std.specs.Prelude.{◌<◌, ◌≤◌, ◌^◌};
     ghost use prog.Memory.{size, align};
