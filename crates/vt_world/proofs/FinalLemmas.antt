@@ -16,7 +16,6 @@ use Rattle.vt_steps.specs.Next.{reached}
 use Rattle.vt_steps.specs.World.{Book, process_at}
 use Rattle.vt_steps.specs.StandsFor.{StandsForProcess}
 use Rattle.vt_steps.proofs.book.ReachedBooks.{closed-finals}
-use Rattle.vt_steps.proofs.history.FinalValues.{events-end}
 use Rattle.vt_steps.proofs.steps.MemoryLemmas.{is_where}
 use Rattle.vt_lp.specs.Held.{HeldProcess, process_memory}
 use Rattle.vt_kernel.specs.Held.{HeldWorker, part_memory, process_of}
@@ -58,7 +57,6 @@ module _ {M S P K : Type 0} {handlers : Handlers S P K} {held : HeldWorld M S P 
       let stands : StandsForProcess sim p (process_memory handlers q) process.0 = subst (λ n. StandsForProcess sim n (process_memory handlers q) process.0) number process.2 in
       sym (is_where sim p (process_memory handlers q) process.0 stands)
       ∙ closed-finals sim lawful x.0 x.1.0 (ap (λ (b : Book). b.is_closed) x.1.1.book ∙ shut) p process.0 less (part.0, part.1, process.1)
-      ∙ ap (after sim p) (events-end sim lawful p less)
 
   pub final-value : (p : ℕ) {k : HeldWorker S P K} {q : HeldProcess S P K} → p < held.config.lps → slice_get held.workers (p % held.config.workers) ≡ Some k → process_of k p ≡ Some q
       → handlers.finish p q.triple.state ≡ handlers.finish p (after (simulation_of handlers held.config) p (events_of p (whole_run (simulation_of handlers held.config)))).state

@@ -10,6 +10,8 @@ use Rattle.vt_model.specs.Sequential.{events_before, seq_events}
 use Rattle.vt_model.specs.Simulation.{Simulation}
 use Rattle.vt_steps.specs.Letters.{unstamped}
 use Rattle.vt_steps.specs.World.{Entry, LogicalProcess, World, start_sends}
+use Rattle.vt_steps.specs.declared.step.Step.{Step}
+use Rattle.vt_steps.specs.Next.{reached}
 use Rattle.vt_steps.specs.Claims.{IsProcess}
 
 module _ {S P : Type 0} (sim : Simulation S P) where
@@ -20,6 +22,10 @@ module _ {S P : Type 0} (sim : Simulation S P) where
   -- why no opening world is made: a serial would pass its limit; or none would, and memory was refused
   abbrev pub IsOpeningRefusal : ℕ → Fault → Type 0
   IsOpeningRefusal serial fault = ((fault ≡ Exhausted) × PassesAtStart serial) ⊎ ((fault ≡ Memory) × (PassesAtStart serial → ⊥))
+
+  -- the world is one that some list of steps makes of an opening world
+  abbrev pub IsReachedWorld : World P → Type 0
+  IsReachedWorld world = ∥ ((serial : ℕ) × (steps : List Step) × (world ≡ reached sim serial steps)) ∥₁
 
   -- these are the events of the past entries of process p of a world, in order
   abbrev pub IsPastIn : World P → ℕ → List (Event P) → Type 0

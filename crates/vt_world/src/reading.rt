@@ -1,18 +1,16 @@
 //! What a world still has to do, and what its processes have done.
 
-ghost use Rattle.std.specs.Prelude.{◌≡◌, ℕ, ◌<◌, ◌≤◌, ◌⊎◌, List, map, All, IfOk, IfErr, OnOk};
+ghost use Rattle.std.specs.Prelude.{◌≡◌, ◌<◌, ◌≤◌, ◌⊎◌, map, All, IfOk, IfErr, OnOk};
 ghost use Rattle.std.specs.List.{flat_map};
 ghost use Rattle.vt_key.specs.Times.{Time, TimeAtMost};
 ghost use Rattle.vt_key.specs.declared.fault.Fault.TheVariants.{Memory, NotLawful};
 ghost use Rattle.vt_model.specs.Simulation.{simulation_of};
 ghost use Rattle.vt_model.specs.Settings.{end_of};
-ghost use Rattle.vt_steps.specs.declared.step.Step.{Step};
 ghost use Rattle.vt_steps.specs.Letters.{least_time};
 ghost use Rattle.vt_steps.specs.World.{least};
-ghost use Rattle.vt_steps.specs.Next.{reached};
 ghost use Rattle.vt_kernel.specs.Guards.{held_letters};
 ghost use Rattle.vt_world.specs.Held.{StandsForWorld, least_held};
-ghost use Rattle.vt_world.specs.Answers.{IsPastIn, EndsSequential};
+ghost use Rattle.vt_world.specs.Answers.{IsReachedWorld, IsPastIn, EndsSequential};
 
 use crate::in_memory::InMemory;
 use crate::inbox::Inbox;
@@ -24,10 +22,12 @@ use vt_model::Model as EventModel;
 
 impl<'m, M: EventModel> World<'m, M> {
     /// The least time of all events and anti-messages that are unprocessed or travelling: in outboxes and
-    /// inboxes, fetched, pending and waiting. The end of the run if there are none. It takes no memory.
+    /// inboxes, fetched, pending and waiting. The end of the run if there are none. It takes no memory. The world is one
+    /// that some list of steps makes of an opening world.
     pub fn least(&self) -> When
         ensures value { result ≡ least (end_of self.now.config) self.now.world }
         ensures announced { TimeAtMost self.now.world.board.announced result }
+        ensures reached { IsReachedWorld (simulation_of (M.handlers self.now.model) self.now.config) self.now.world }
     {
         self.memory.least()
     }
@@ -41,7 +41,7 @@ impl<'m, M: EventModel> World<'m, M> {
     /// [`Fault::NotLawful`]: there is no such process. [`Fault::Memory`]: there is, and memory was refused.
     pub fn past(&self, alloc: Global, lp: u32) -> Result<Vec<Event<M::Payload>>, Fault>
         ensures past { IfOk result (λ v. IsPastIn (simulation_of (M.handlers self.now.model) self.now.config) self.now.world lp v.items) }
-        ensures reached { ∥ ((serial : ℕ) × (steps : List Step) × (self.now.world ≡ reached (simulation_of (M.handlers self.now.model) self.now.config) serial steps)) ∥₁ }
+        ensures reached { IsReachedWorld (simulation_of (M.handlers self.now.model) self.now.config) self.now.world }
         ensures sequential { (t : Time) → TimeAtMost t (least (end_of self.now.config) self.now.world) → IfOk result (λ v. EndsSequential (simulation_of (M.handlers self.now.model) self.now.config) lp t v.items) }
         ensures known { OnOk result (lp < self.now.config.lps) }
         ensures refused { IfErr result (λ fault. ((fault ≡ NotLawful) × (self.now.config.lps ≤ lp)) ⊎ ((fault ≡ Memory) × (lp < self.now.config.lps))) }

@@ -1,4 +1,4 @@
-use Rattle.std.proofs.Common.{◌≡◌, ◌∙◌, sym, subst}
+use Rattle.std.proofs.Common.{◌≡◌, ◌∙◌, refl, sym, subst}
 use Rattle.vt_key.specs.Times.{TimeAtMost}
 use Rattle.vt_model.proofs.LawLemmas.{lawful_of}
 use Rattle.vt_model.specs.Settings.{end_of}
@@ -6,6 +6,7 @@ use Rattle.vt_model.specs.Simulation.{simulation_of}
 use Rattle.vt_steps.specs.World.{least}
 use Rattle.vt_steps.proofs.book.HeadlineTheorem.{headline}
 use Rattle.vt_world.specs.Calls.{RunWorld}
+use Rattle.vt_world.specs.Answers.{IsReachedWorld}
 use Rattle.vt_world.proofs.HeldLemmas.{least-same}
 use Rattle.vt_world.proofs.world.World.least.Goals as goal
 
@@ -19,4 +20,5 @@ returns g c =
     record {
       value = subst (λ (v : RunWorld _ _). c.least.result ≡ least (end_of v.config) v.world) c.self.view_is value;
       announced = subst (λ (v : RunWorld _ _). TimeAtMost v.world.board.announced c.least.result) c.self.view_is (subst (TimeAtMost _) (sym value) right.announced);
+      reached = subst (λ (v : RunWorld _ _). IsReachedWorld (simulation_of (g.M.Model.handlers v.model) v.config) v.world) c.self.view_is ∣ (i.serial, i.steps.items, refl) ∣₁;
     }

@@ -1,13 +1,11 @@
-use Rattle.std.proofs.Common.{◌≡◌, ℕ, List, refl, subst, IfOk}
+use Rattle.std.proofs.Common.{refl, subst, IfOk}
 use Rattle.vt_key.specs.Times.{Time, TimeAtMost}
 use Rattle.vt_model.proofs.LawLemmas.{lawful_of}
 use Rattle.vt_model.specs.Settings.{end_of}
 use Rattle.vt_model.specs.Simulation.{simulation_of}
-use Rattle.vt_steps.specs.declared.step.Step.{Step}
 use Rattle.vt_steps.specs.World.{least}
-use Rattle.vt_steps.specs.Next.{reached}
 use Rattle.vt_world.specs.Calls.{RunWorld}
-use Rattle.vt_world.specs.Answers.{IsPastIn, EndsSequential}
+use Rattle.vt_world.specs.Answers.{IsReachedWorld, IsPastIn, EndsSequential}
 use Rattle.vt_world.proofs.PastLemmas.{ok-both, past-sequential}
 use Rattle.vt_world.proofs.world.World.past.Goals as goal
 
@@ -17,7 +15,7 @@ returns-clause-past g c =
 
 pub returns-clause-reached : goal.returns-clause-reached
 returns-clause-reached g c =
-    subst (λ (v : RunWorld _ _). ∥ ((serial : ℕ) × (steps : List Step) × (v.world ≡ reached (simulation_of (g.M.Model.handlers v.model) v.config) serial steps)) ∥₁) c.self.view_is
+    subst (λ (v : RunWorld _ _). IsReachedWorld (simulation_of (g.M.Model.handlers v.model) v.config) v.world) c.self.view_is
     ∣ (c.self.inside.serial, c.self.inside.steps.items, refl) ∣₁
 
 pub returns-clause-sequential : goal.returns-clause-sequential
