@@ -30,7 +30,7 @@ use Rattle.vt_kernel.specs.Held.{HeldWorker}
 use Rattle.vt_places.specs.declared.view.View.{View}
 use Rattle.vt_places.specs.Slots.{cell_at}
 use Rattle.vt_places.specs.Calls.{Known, Closes, Reaches, Visited, IsRefusedByShown, IsCutRefusal, IsReportRefusal, IsCommitRefusal, IsCloseRefusal, IsRefusedAlone}
-use Rattle.vt_places.proofs.OneList.{steps-own, steps-answered}
+use Rattle.vt_places.proofs.OneList.{steps-own, steps-told}
 use Rattle.vt_steps.proofs.steps.MemoryLemmas.{run-append}
 use Rattle.vt_steps.proofs.time.Flags.{may-tells}
 
@@ -40,15 +40,11 @@ same-fault r a b e f = let h : ◌≡◌ {A = Result _ Fault} (Err a) (Err b) = 
 not-both : {X Y : Type 0} (r : Result Y Fault) (x : Y) (a : Fault) → r ≡ Ok x → r ≡ Err a → X
 not-both r x a e f = absurd (let h : Ok x ≡ Err a = sym e ∙ f in cc)
 
-steps-made : (mine : List Made) → map (λ (a : Answered). a.step) (map answered mine) ≡ map (λ (m : Made). m.step) mine
-steps-made [] = refl
-steps-made (m ∷ mine) = ap (λ (l : List Step). m.step ∷ l) (steps-made mine)
-
 module _ {S P : Type 0} (sim : Simulation S P) (v : View P) where
   -- a list of the place's own steps alone leads where these lead
   shown-alone : (log : List Marked) → own_steps_of sim v.worker log ≡ map answered v.mine → AllByRecursion (λ m. m.worker ≡ v.worker) log → shown sim log ≡ reached sim 0 (map (λ m. m.step) v.mine)
   shown-alone log mine own =
-      ap (reached sim 0) (sym (steps-own v.worker log own) ∙ sym (steps-answered sim v.worker (opening_world sim 0) log) ∙ ap (map (λ (a : Answered). a.step)) mine ∙ steps-made v.mine)
+      ap (reached sim 0) (sym (steps-own v.worker log own) ∙ steps-told sim v.worker log v.mine mine)
 
   -- after local steps a step is answered by the part and what its cell held before them
   module _ (world : World P) (is : slice_get world.parts v.worker ≡ Some v.part) (steps : List Step) (part : Part P) (led : local_steps sim v.worker steps v.part ≡ Some part) where

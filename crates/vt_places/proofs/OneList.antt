@@ -1,18 +1,17 @@
 -- What each place left of a list of marked steps tells the list.
-use Rattle.std.proofs.Common.{◌≡◌, inl, inr, ℕ, ◌+◌, ◌<◌, Bool, true, false, cond, List, [], ◌∷◌, ◌++◌, map, length, length-append, refl, sym, ◌∙◌, ap, subst, arith, nat_eq}
+use Rattle.std.proofs.Common.{◌≡◌, inl, inr, ℕ, ◌+◌, ◌<◌, Bool, true, false, cond, List, [], ◌∷◌, ◌++◌, map, length, length-append, append_assoc, refl, sym, ◌∙◌, ap, subst, arith, nat_eq}
 use Rattle.std.proofs.Common.{eq-eqb}
 use Rattle.std.proofs.lemmas.Bool.Decides.{eqb_tells}
-use Rattle.std.proofs.lemmas.List.{append-nil, nil_from_length}
+use Rattle.std.proofs.lemmas.List.{append-nil, append_cancel_left, nil_from_length}
 use Rattle.std.specs.List.{AllByRecursion}
 use Rattle.vt_model.specs.Simulation.{Simulation}
 use Rattle.vt_steps.specs.declared.step.Step.{Step}
 use Rattle.vt_steps.specs.Next.{next}
-use Rattle.vt_steps.specs.World.{World}
-use Rattle.vt_steps.specs.Marked.{Marked, Answered, unmarked, marked, own_steps}
-use Rattle.vt_steps.proofs.marks.MarkedRuns.{each-marked}
+use Rattle.vt_steps.specs.World.{World, opening_world}
+use Rattle.vt_steps.specs.Marked.{Marked, Made, Answered, answered, unmarked, marked, own_steps, own_steps_of}
+use Rattle.vt_key.specs.Lists.{Among}
 use Rattle.vt_places.specs.Kept.{HasGrown}
-use Rattle.vt_places.proofs.Growth.{grown-not, grown-more}
-use Rattle.vt_key.proofs.ListLemmas.{every-append, every-weaker}
+use Rattle.vt_key.proofs.ListLemmas.{among-right, every-all, every-among}
 
 -- the steps of a worker, without their answers
 abbrev pub steps_by : ℕ → List Marked → List Step
@@ -35,6 +34,29 @@ module _ {S P : Type 0} (sim : Simulation S P) where
       let outcome = next sim world m.step in
       map-cond (nat_eq m.worker w) (record { step = m.step; answer = outcome.answer }) (own_steps sim w outcome.world marks)
       ∙ ap (λ (l : List Step). cond (nat_eq m.worker w) (m.step ∷ l) l) (steps-answered w outcome.world marks)
+
+-- the steps that were made, by their answers
+steps-made : (mine : List Made) → map (λ (a : Answered). a.step) (map answered mine) ≡ map (λ (m : Made). m.step) mine
+steps-made [] = refl
+steps-made (m ∷ mine) = ap (λ (l : List Step). m.step ∷ l) (steps-made mine)
+
+-- where the steps of a worker in a list are its own, these are they
+pub steps-told : {S P : Type 0} (sim : Simulation S P) (w : ℕ) (log : List Marked) (mine : List Made) → own_steps_of sim w log ≡ map answered mine → steps_by w log ≡ map (λ (m : Made). m.step) mine
+steps-told sim w log mine own = sym (steps-answered sim w (opening_world sim 0) log) ∙ ap (map (λ (a : Answered). a.step)) own ∙ steps-made mine
+
+-- the steps of a worker in one list and another behind it
+pub steps-behind : (w : ℕ) (xs ys : List Marked) → steps_by w (xs ++ ys) ≡ steps_by w xs ++ steps_by w ys
+steps-behind w [] ys = refl
+steps-behind w (x ∷ xs) ys =
+    elim (nat_eq x.worker w) as (λ b. cond b (x.step ∷ steps_by w (xs ++ ys)) (steps_by w (xs ++ ys)) ≡ cond b (x.step ∷ steps_by w xs) (steps_by w xs) ++ steps_by w ys) [
+      | true ↦ ap (λ (l : List Step). x.step ∷ l) (steps-behind w xs ys)
+      | false ↦ steps-behind w xs ys
+    ]
+
+-- steps that are all marked with one worker are these steps, marked with it
+pub marked-again : (w : ℕ) (marks : List Marked) → AllByRecursion (λ m. m.worker ≡ w) marks → marks ≡ marked w (unmarked marks)
+marked-again w [] own = refl
+marked-again w (m ∷ marks) own = λ j. record { worker = own.0 j; step = m.step } ∷ marked-again w marks own.1 j
 
 differs : (q w : ℕ) → nat_eq q w ≡ false → ¬ (q ≡ w)
 differs q w no_same same = absurd (let h : true ≡ false = sym (eq-eqb q w same) ∙ no_same in cc)
@@ -71,35 +93,50 @@ all-left m ms former g = by_rest g.since g.whole g.others
 abbrev pub AreTold : ℕ → List Marked → List Marked → Type 0
 AreTold workers log other = (q : ℕ) → q < workers → (former : List Marked) × HasGrown q former log × HasGrown q former other
 
--- so one goes on where the other ends
-goes-on : (workers : ℕ) (log other : List Marked) → AllByRecursion (λ m. m.worker < workers) log → AreTold workers log other → (more : List Marked) × (other ≡ log ++ more)
-goes-on workers [] other few told = (other, refl)
-goes-on workers (m ∷ ms) other few told =
-    let t = told (last_of m ms).worker (last-each (λ (x : Marked). x.worker < workers) m ms few.0 few.1) in
-    (t.2.since, t.2.whole ∙ ap (λ (l : List Marked). l ++ t.2.since) (sym (all-left m ms t.0 t.1)))
+-- each place has left the beginning of one list, and another list begins so too
+abbrev AreBegun : ℕ → List Marked → List Marked → Type 0
+AreBegun workers log other = (q : ℕ) → q < workers → (former : List Marked) × HasGrown q former log × ((since : List Marked) × (other ≡ former ++ since))
+
+-- so the other goes on where the one ends
+goes-on : (workers : ℕ) (log other : List Marked) → AllByRecursion (λ m. m.worker < workers) log → AreBegun workers log other → (more : List Marked) × (other ≡ log ++ more)
+goes-on workers [] other few begun = (other, refl)
+goes-on workers (m ∷ ms) other few begun =
+    let t = begun (last_of m ms).worker (last-each (λ (x : Marked). x.worker < workers) m ms few.0 few.1) in
+    (t.2.0, t.2.1 ∙ ap (λ (l : List Marked). l ++ t.2.0) (sym (all-left m ms t.0 t.1)))
 
 pub places-tell : (workers : ℕ) (log other : List Marked) → AllByRecursion (λ m. m.worker < workers) log → AllByRecursion (λ m. m.worker < workers) other → AreTold workers log other → log ≡ other
 places-tell workers log other few few_other told =
-    let a = goes-on workers log other few told in
-    let b = goes-on workers other log few_other (λ q less. (let t = told q less in (t.0, t.2, t.1))) in
+    let a = goes-on workers log other few (λ q less. (let t = told q less in (t.0, t.1, (t.2.since, t.2.whole)))) in
+    let b = goes-on workers other log few_other (λ q less. (let t = told q less in (t.0, t.2, (t.1.since, t.1.whole)))) in
     let more : length other ≡ length log + length a.0 = ap length a.1 ∙ length-append log a.0 in
     let less : length log ≡ length other + length b.0 = ap length b.1 ∙ length-append other b.0 in
     let none : b.0 ≡ [] = nil_from_length b.0 (omega arith) in
     b.1 ∙ ap (λ (l : List Marked). other ++ l) none ∙ append-nil other
 
--- more steps of one worker stand behind all others
-pub list-grows : (workers w : ℕ) (log other : List Marked) (steps : List Step) → AllByRecursion (λ m. m.worker < workers) log → AllByRecursion (λ m. m.worker < workers) other → w < workers
+-- two lists of which all places but one have left the same, and of which that place's begin alike: the other is the one with
+-- steps of that place alone behind it
+pub list-grows : (workers w : ℕ) (log other former since : List Marked) → AllByRecursion (λ m. m.worker < workers) log → AllByRecursion (λ m. m.worker < workers) other
+    → HasGrown w former log → other ≡ former ++ since
     → ((q : ℕ) → q < workers → ¬ (q ≡ w) → (former : List Marked) × HasGrown q former log × HasGrown q former other)
-    → HasGrown w (log ++ marked w steps) other → other ≡ log ++ marked w steps
-list-grows workers w log other steps few few_other known others own = places-tell workers other (log ++ marked w steps) few_other few_longer same
+    → (more : List Marked) × (other ≡ log ++ more) × AllByRecursion (λ m. m.worker ≡ w) more
+list-grows workers w log other former since few few_other left begins others = (grown.0, grown.1, every-all (λ (m : Marked). m.worker ≡ w) grown.0 own)
   where
-    few_longer : AllByRecursion (λ m. m.worker < workers) (log ++ marked w steps)
-    few_longer = every-append (λ m. m.worker < workers) log (marked w steps) few (every-weaker (λ m. m.worker ≡ w) (λ m. m.worker < workers) (marked w steps) (λ m is. omega arith) (each-marked w steps))
+    begun : AreBegun workers log other
+    begun q less = elim (eqb_tells q w) [
+      | inl t ↦ subst (λ (n : ℕ). (former : List Marked) × HasGrown n former log × ((since : List Marked) × (other ≡ former ++ since))) (sym t.1) (former, left, (since, begins))
+      | inr t ↦ (let o = others q less (differs q w t.0) in (o.0, o.1, (o.2.since, o.2.whole)))
+    ]
 
-    same : AreTold workers other (log ++ marked w steps)
-    same q less = elim (eqb_tells q w) [
-      | inl t ↦ subst (λ (n : ℕ). (former : List Marked) × HasGrown n former other × HasGrown n former (log ++ marked w steps)) (sym t.1) (log ++ marked w steps, own, grown-not w (log ++ marked w steps))
-      | inr t ↦ (let ne : ¬ (q ≡ w) = differs q w t.0 in
-          let o = others q less ne in
-          (o.0, o.2, grown-more w q o.0 log steps ne o.1))
+    grown : (more : List Marked) × (other ≡ log ++ more)
+    grown = goes-on workers log other few begun
+
+    own : (m : Marked) → Among m grown.0 → m.worker ≡ w
+    own m there = elim (eqb_tells m.worker w) [
+      | inl t ↦ t.1
+      | inr t ↦
+          let less : m.worker < workers = every-among (λ (x : Marked). x.worker < workers) other m few_other (subst (Among m) (sym grown.1) (among-right m log grown.0 there)) in
+          let o = others m.worker less (differs m.worker w t.0) in
+          let behind : o.2.since ≡ o.1.since ++ grown.0 =
+          append_cancel_left o.0 o.2.since (o.1.since ++ grown.0) (sym o.2.whole ∙ grown.1 ∙ ap (λ (l : List Marked). l ++ grown.0) o.1.whole ∙ append_assoc o.0 o.1.since grown.0) in
+          absurd (every-among (λ (x : Marked). ¬ (x.worker ≡ m.worker)) o.2.since m o.2.others (subst (Among m) (sym behind) (among-right m o.1.since grown.0 there)) refl)
     ]

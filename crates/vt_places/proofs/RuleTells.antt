@@ -1,5 +1,6 @@
 -- The rule of a station's table tells one list of steps, which a visit makes longer at its end.
-use Rattle.std.proofs.Common.{◌≡◌, ℕ, ◌<◌, List, ◌++◌, length, sym, ◌∙◌, ap, subst}
+use Rattle.std.proofs.Common.{◌≡◌, ℕ, ◌<◌, List, ◌++◌, map, length, append_assoc, sym, ◌∙◌, ap, subst}
+use Rattle.std.proofs.lemmas.List.{append_cancel_left, map-append}
 use mathlib.Core.Option.{some, some-injective}
 use lib.ListN.{get_elem?}
 use Rattle.std.proofs.Common.{set, length-set}
@@ -8,10 +9,10 @@ use Rattle.atomic_table.proofs.Lists.{set_else}
 use Rattle.vt_model.specs.declared.settings.Config.{Config}
 use Rattle.vt_model.specs.Simulation.{Simulation}
 use Rattle.vt_steps.specs.declared.step.Step.{Step}
-use Rattle.vt_steps.specs.Marked.{Marked, marked}
+use Rattle.vt_steps.specs.Marked.{Marked, Made, marked, unmarked}
 use Rattle.vt_places.specs.declared.view.View.{View}
 use Rattle.vt_places.specs.Kept.{TableState, HasGrown, IsTableRight}
-use Rattle.vt_places.proofs.OneList.{AreTold, places-tell, list-grows}
+use Rattle.vt_places.proofs.OneList.{AreTold, places-tell, list-grows, marked-again, steps_by, steps-behind, steps-own, steps-told}
 use Rattle.vt_places.proofs.Seating.{set-there}
 
 module _ {S P : Type 0} (sim : Simulation S P) (config : Config) where
@@ -27,13 +28,25 @@ module _ {S P : Type 0} (sim : Simulation S P) (config : Config) where
             subst (λ (n : ℕ). HasGrown n p.view.log l.log) p.worker (l.each p.seat p.view p.there).grows,
           )
 
-  -- where one seat leaves the list with steps behind it, and the others know the same, the list is that one
-  pub next-log : (s t : TableState P) (id : ℕ) (v w : View P) (steps : List Step) (k : IsTableRight sim config s) (l : IsTableRight sim config t)
-      → get_elem? s.views id ≡ some v → t.views ≡ set s.views id w → w.worker ≡ v.worker → w.log ≡ k.log ++ marked v.worker steps → l.log ≡ k.log ++ marked v.worker steps
-  next-log s t id v w steps k l at views same_worker left =
-      list-grows k.made v.worker k.log l.log steps k.marks (subst (λ (n : ℕ). AllByRecursion (λ (m : Marked). m.worker < n) l.log) (sym l.count ∙ (ap length views ∙ length-set s.views id w) ∙ k.count) l.marks) (k.each id v at).inside others
-      (subst (λ (n : ℕ). HasGrown n (k.log ++ marked v.worker steps) l.log) same_worker
-      (subst (λ (former : List Marked). HasGrown w.worker former l.log) left (l.each id w (ap (λ (vs : List (View P)). get_elem? vs id) views ∙ set-there s.views id v w at)).grows))
+  -- where one seat's view has changed, to one that has left the list longer and has more steps of its own, these stand behind
+  -- all others
+  pub next-log : (s t : TableState P) (id : ℕ) (v w : View P) (made : List Made) (more : List Marked) (k : IsTableRight sim config s) (l : IsTableRight sim config t)
+      → get_elem? s.views id ≡ some v → t.views ≡ set s.views id w → w.worker ≡ v.worker → w.log ≡ v.log ++ more → w.mine ≡ v.mine ++ made → l.log ≡ k.log ++ marked v.worker (map (λ (m : Made). m.step) made)
+  next-log s t id v w made more k l at views same_worker left mine =
+      let now = l.each id w (ap (λ (vs : List (View P)). get_elem? vs id) views ∙ set-there s.views id v w at) in
+      let before = k.each id v at in
+      let grown =
+      list-grows k.made v.worker k.log l.log v.log (more ++ now.grows.since) k.marks (subst (λ (n : ℕ). AllByRecursion (λ (m : Marked). m.worker < n) l.log) (sym l.count ∙ (ap length views ∙ length-set s.views id w) ∙ k.count) l.marks)
+      before.grows (now.grows.whole ∙ ap (λ (marks : List Marked). marks ++ now.grows.since) left ∙ append_assoc v.log more now.grows.since) others in
+      let steps_of : List Made → List Step = map (λ (m : Made). m.step) in
+      let known : steps_by v.worker k.log ≡ steps_of v.mine = steps-told sim v.worker k.log v.mine before.mine in
+      let told : steps_by v.worker l.log ≡ steps_of v.mine ++ steps_of made =
+      subst (λ (n : ℕ). steps_by n l.log ≡ steps_of w.mine) same_worker (steps-told sim w.worker l.log w.mine now.mine) ∙ ap steps_of mine ∙ map-append (λ (m : Made). m.step) v.mine made in
+      let behind : steps_of v.mine ++ unmarked grown.0 ≡ steps_of v.mine ++ steps_of made =
+      ap (λ (xs : List Step). xs ++ unmarked grown.0) (sym known) ∙ ap (λ (xs : List Step). steps_by v.worker k.log ++ xs) (sym (steps-own v.worker grown.0 grown.2))
+      ∙ sym (steps-behind v.worker k.log grown.0) ∙ ap (steps_by v.worker) (sym grown.1) ∙ told in
+      let new : unmarked grown.0 ≡ steps_of made = append_cancel_left (steps_of v.mine) (unmarked grown.0) (steps_of made) behind in
+      grown.1 ∙ ap (λ (marks : List Marked). k.log ++ marks) (marked-again v.worker grown.0 grown.2 ∙ ap (marked v.worker) new)
     where
       others : (q : ℕ) → q < k.made → ¬ (q ≡ v.worker) → (former : List Marked) × HasGrown q former k.log × HasGrown q former l.log
       others q less ne =

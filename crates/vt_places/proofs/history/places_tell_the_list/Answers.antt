@@ -6,5 +6,5 @@ pub returns : goal.returns
 returns g c = record {
   told = λ workers log other few few_other told. places-tell workers log other few few_other told;
   one = λ config s k l. one-log g.sim config s k l;
-  next = λ config s t id v w steps k l at views same left. next-log g.sim config s t id v w steps k l at views same left;
+  next = λ config s t id v w made more k l at views same left mine. next-log g.sim config s t id v w made more k l at views same left mine;
 }
