@@ -156,11 +156,13 @@ impl<M: EventModel> Lp<M> {
     }
 
     /// The rank of the event that [`Lp::execute`] would execute: that of the least pending message, if it comes after
-    /// the last past event. Otherwise None.
+    /// the last past event. Otherwise None. The ranks of both queues and of the past events rise strictly.
     pub fn ready(&self) -> Option<Rank>
         ensures rank { result ≡ ready_rank self.now.pending self.now.past }
-        ensures rising { IsRising self.now.pending × IsRisingPast self.now.past }
+        ensures rising { IsRising self.now.pending × IsRising self.now.waiting × IsRisingPast self.now.past }
     {
+        // Tells the clause that anti-messages rise, and reads nothing.
+        let _least = self.waiting.least();
         let least = self.pending.least()?;
         if !ends_before(&self.past, least.event.rank) {
             return None;
