@@ -20,6 +20,9 @@ SECTIONS {
   .text : { KEEP(*(.text)) *(.text.*) } :code
   ASSERT(SIZEOF(.text) <= 0x100000, "twarp: more than 1048576 bytes of code")
 
+  .init_array : { KEEP(*(.preinit_array .init_array .init_array.* .ctors .ctors.*)) } :code
+  ASSERT(SIZEOF(.init_array) == 0, "twarp: a constructor, which nothing would call; make the first state in start")
+
   . = ALIGN(16);
   .rodata : { KEEP(*(.rodata .srodata .rodata.processes)) *(.rodata.* .srodata.* .data.rel.ro .data.rel.ro.*) } :constants
   ASSERT(. <= 0x1010000, "twarp: more than 16777216 bytes of code and constants")
