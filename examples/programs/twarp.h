@@ -2,7 +2,7 @@
 //
 // All of its objects that may change are the state of one logical process: each process has its own, at most 4,096 bytes in
 // all, and a handler sees that of the process it runs for. Nothing else is kept from one handler to the next. A number that
-// the command line may set by --set NAME=VALUE is `const volatile u32 NAME = DEFAULT;`, or u64: it takes no state.
+// the command line may set by --set NAME=VALUE is `const volatile u32 NAME = DEFAULT;`, or u64: it takes no state, but by gcc.
 #ifndef TWARP_H
 #define TWARP_H
 
