@@ -1,6 +1,5 @@
-//! Workers at a station that are driven by hand, runs on workers, and what a world calls.
+//! Workers at a station that are driven by hand, and runs on workers.
 
-mod calls;
 mod driving;
 mod finals;
 mod hand;

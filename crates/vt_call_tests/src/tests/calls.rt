@@ -1,10 +1,9 @@
 //! How often a world calls its model's handlers.
 
-use crate::tests::told::holds;
 use std::alloc::AllocGlobal;
 use std::cell::Cell;
 use std::process::Abort;
-use std::rt::HostRuntime;
+use std::rt::{self, HostRuntime};
 use std::test::Fail;
 use vt_key::When;
 use vt_model::{Bits, Config, Draws, Model as EventModel, Out};
@@ -14,20 +13,30 @@ use vt_world::World;
 
 /// A model that counts the calls of its handlers, and otherwise is another.
 #[derive(Drop)]
-struct Counting<M: EventModel> {
+pub(crate) struct Counting<M: EventModel> {
     model: M,
-    forwards: Cell<u32>,
-    reverses: Cell<u32>,
+    starts: Cell<u64>,
+    forwards: Cell<u64>,
+    reverses: Cell<u64>,
 }
 
 impl<M: EventModel> Counting<M> {
-    /// How often `forward` and `reverse` were called.
-    fn calls(&self) -> (u32, u32) {
-        (self.forwards.get(), self.reverses.get())
+    pub(crate) fn new(model: M) -> Counting<M> {
+        Counting {
+            model,
+            starts: Cell::new(0),
+            forwards: Cell::new(0),
+            reverses: Cell::new(0),
+        }
+    }
+
+    /// How often `start`, `forward` and `reverse` were called.
+    pub(crate) fn calls(&self) -> [u64; 3] {
+        [self.starts.get(), self.forwards.get(), self.reverses.get()]
     }
 }
 
-fn count(calls: &Cell<u32>) {
+fn count(calls: &Cell<u64>) {
     calls.set(calls.get().wrapping_add(1));
 }
 
@@ -43,6 +52,7 @@ impl<M: EventModel> EventModel for Counting<M> {
     ghost IsState = { λ m s. M.IsState m.model s };
 
     fn start(&self, lp: u32, draws: &mut Draws<'_>, out: &mut Out<M::Payload>) -> M::State {
+        count(&self.starts);
         self.model.start(lp, draws, out)
     }
 
@@ -104,10 +114,10 @@ fn takes(
     model: &Counting<Hop>,
     steps: &[Step],
     refused: u64,
-    want: (u32, u32),
+    want: [u64; 3],
 ) {
     let is_taken = matches!(world.run(rt.alloc(), steps), Ok(found) if found == refused);
-    holds(rt, is_taken && model.calls() == want, "steps and calls");
+    assert!(rt; is_taken && model.calls() == want, "steps and calls");
 }
 
 // Both processes execute their tokens.
@@ -135,20 +145,16 @@ fn overtakes(
     world: &mut World<'_, Counting<Hop>>,
     model: &Counting<Hop>,
 ) {
-    takes(rt, world, model, &AHEAD, 0, (2, 0));
-    takes(rt, world, model, &STRAGGLER, 1, (2, 0));
-    takes(rt, world, model, &UNDONE, 1, (2, 1));
-    takes(rt, world, model, &AGAIN, 1, (4, 1));
+    takes(rt, world, model, &AHEAD, 0, [2, 2, 0]);
+    takes(rt, world, model, &STRAGGLER, 1, [2, 2, 0]);
+    takes(rt, world, model, &UNDONE, 1, [2, 2, 1]);
+    takes(rt, world, model, &AGAIN, 1, [2, 4, 1]);
 }
 
 /// Process 1 executes its token, and is overtaken by that of process 0. A step that is refused calls nothing.
 #[test]
 fn an_execution_is_one_forward_and_an_undo_one_reverse(rt: HostRuntime) -> Result<(), Fail> {
-    let model = Counting {
-        model: Hop::new(1, 1, 1, 0)?,
-        forwards: Cell::new(0),
-        reverses: Cell::new(0),
-    };
+    let model = Counting::new(Hop::new(1, 1, 1, 0)?);
     let mut world = World::new(rt.alloc(), &model, Config::new(2, 2, 10, 0)?)?;
     overtakes(&rt, &mut world, &model);
     Ok(())
