@@ -67,3 +67,36 @@ fn drawn_runs_end_as_those_of_another_program(rt: HostRuntime) -> Result<(), Fai
     holds(&rt, ends_so(rt.alloc(), &stations, 33, want)?, "stations");
     Ok(())
 }
+
+// Whether a whole run leaves each process with this send number, and at this place in its words.
+fn leaves_each<M: EventModel>(
+    alloc: Global,
+    model: &M,
+    config: Config,
+    number: u64,
+    place: u64,
+) -> Result<bool, Fault> {
+    match opened(alloc, model, config) {
+        Ok(mut run) => {
+            whole(alloc, &mut run)?;
+            let mut lps = 0..config.lps;
+            Ok(lps.all(|lp| run.number(lp) == Some(number) && run.place(lp) == Some(place)))
+        }
+        Err(fault) => Err(fault),
+    }
+}
+
+/// Each start and each event draws its words and numbers its sends, those past the end too.
+#[test]
+fn runs_leave_send_numbers_and_places(rt: HostRuntime) -> Result<(), Fail> {
+    let (tokens, config) = (Phold::new(1, 0, 3, 1)?, Config::new(2, 1, 10, 0)?);
+    let is_so = leaves_each(rt.alloc(), &tokens, config, 4, 7)?;
+    holds(&rt, is_so, "one token a process");
+    let (tokens, config) = (Phold::new(16, 0, 3, 1)?, Config::new(1, 1, 4, 0)?);
+    let is_so = leaves_each(rt.alloc(), &tokens, config, 32, 48)?;
+    holds(&rt, is_so, "sixteen tokens");
+    let (jobs, config) = (Stations::new(2, 1, 1)?, Config::new(1, 1, 5, 0)?);
+    let is_so = leaves_each(rt.alloc(), &jobs, config, 9, 9)?;
+    holds(&rt, is_so, "two jobs");
+    Ok(())
+}

@@ -1,8 +1,9 @@
 //! Pending letters in the order of their ranks.
 
 use crate::tests::told::holds;
-use std::alloc::{AllocError, Global};
+use std::alloc::{AllocError, AllocGlobal, Global};
 use std::mem::size_of;
+use std::process::Abort;
 use std::test::*;
 use vt_key::{Event, Key, Letter, Rank, Sign, Stamp, When};
 use vt_list::Parcel;
@@ -70,9 +71,7 @@ fn letters_leave_by_stamp_and_by_rank(rt: HostRuntime) -> Result<(), Fail> {
     let second = rank((2, 0, 1), (0, 1));
     let third = rank((3, 1, 1), (1, 1));
     let mut queue = Pending::new(rt.alloc());
-    for rank in [first, second, third] {
-        holds(&rt, put(rt.alloc(), &mut queue, rank)?, "a new rank");
-    }
+    put_all(&rt, &mut queue, &[first, second, third])?;
     holds(
         &rt,
         queue.len() == 3 && is_least(&queue, second),
@@ -90,6 +89,74 @@ fn letters_leave_by_stamp_and_by_rank(rt: HostRuntime) -> Result<(), Fail> {
         queue.take_least().is_none() && queue.is_empty(),
         "no more",
     );
+    Ok(())
+}
+
+// Puts letters of these ranks in. Each must be new.
+fn put_all(
+    rt: &(impl Abort + AllocGlobal),
+    queue: &mut Pending<u64>,
+    ranks: &[Rank],
+) -> Result<(), Fail> {
+    for rank in ranks {
+        holds(rt, put(rt.alloc(), queue, *rank)?, "a new rank");
+    }
+    Ok(())
+}
+
+// Whether this rank is found by its stamp.
+fn is_found(queue: &Pending<u64>, want: Rank) -> bool {
+    match queue.find_stamp(want.stamp) {
+        Some(letter) => letter.event.rank == want,
+        None => false,
+    }
+}
+
+// Letters at these ticks must come out as the second ticks. Then the mask has these bits.
+fn leave_in_order(
+    rt: &(impl Abort + AllocGlobal),
+    ticks: &[u64],
+    want: &[u64],
+    mask: u64,
+) -> Result<(), Fail> {
+    let mut queue = Pending::new(rt.alloc());
+    for tick in ticks {
+        put_all(rt, &mut queue, &[rank((*tick, 0, 1), (0, 1))])?;
+    }
+    holds(rt, queue.mask() == mask, "a bit for each list");
+    for tick in want {
+        let first = is_taken_first(&mut queue, rank((*tick, 0, 1), (0, 1)));
+        holds(rt, first, "the least letter");
+    }
+    holds(rt, queue.is_empty() && queue.mask() == 0, "no letter");
+    Ok(())
+}
+
+/// Ticks that are equal modulo 64 share a list, and bit b tells whether list b has a letter.
+#[test]
+fn ticks_leave_in_order(rt: HostRuntime) -> Result<(), Fail> {
+    let lists = 1 | 1 << 1 | 1 << 63;
+    leave_in_order(&rt, &[127, 64, 0, 63, 65], &[0, 63, 64, 65, 127], lists)?;
+    let far = 4_611_686_018_427_387_903;
+    leave_in_order(&rt, &[far, 63], &[63, far], 1 << 63)
+}
+
+/// The first in the order of ranks is taken, whichever list it stands in.
+#[test]
+fn a_stamp_finds_the_letter_of_least_rank(rt: HostRuntime) -> Result<(), Fail> {
+    let (later, earlier) = (rank((64, 0, 1), (0, 7)), rank((1, 0, 0), (0, 7)));
+    let mut queue = Pending::new(rt.alloc());
+    put_all(&rt, &mut queue, &[later, earlier])?;
+    holds(
+        &rt,
+        queue.mask() == 0b11 && is_found(&queue, earlier),
+        "both",
+    );
+    for want in [earlier, later] {
+        holds(&rt, is_taken_by_stamp(&mut queue, want), "by its stamp");
+    }
+    let is_none = queue.take_stamp(later.stamp).is_none();
+    holds(&rt, is_none && queue.mask() == 0, "no more");
     Ok(())
 }
 

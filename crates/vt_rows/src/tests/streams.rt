@@ -69,3 +69,31 @@ fn any_place_can_be_sought(rt: HostRuntime) {
     let edge = gives_at(7, 3, 63, 2_362_054_594) && gives_at(7, 3, 64, 3_133_867_379);
     holds(&rt, edge, "an edge");
 }
+
+/// The place behind the last one is the first. What was drawn before makes no difference at a place that is sought.
+#[test]
+fn places_go_round(rt: HostRuntime) {
+    let mut stream = LpStream::new(258, 1);
+    stream.seek(u64::MAX);
+    let last = stream.word();
+    holds(&rt, stream.place() == 0, "the place behind the last one");
+    stream.back(1);
+    holds(&rt, stream.place() == u64::MAX, "back at the last place");
+    holds(&rt, stream.word() == last, "the word of the last place");
+    let (mut drawn, mut fresh) = (LpStream::new(258, 1), LpStream::new(258, 1));
+    drawn.word();
+    drawn.seek(5);
+    fresh.seek(5);
+    holds(&rt, drawn.word() == fresh.word(), "one word at one place");
+}
+
+/// A draw below 1 is 0 and takes a word. A draw below 2^32 is the word.
+#[test]
+fn draws_take_one_word(rt: HostRuntime) {
+    let (mut stream, mut words) = (LpStream::new(0, 0), LpStream::new(0, 0));
+    holds(&rt, stream.below(1) == 0, "below 1");
+    holds(&rt, stream.place() == 1, "one word");
+    words.word();
+    let is_word = stream.below(1 << 32) == u64::from(words.word());
+    holds(&rt, is_word && stream.place() == 2, "below 2^32");
+}

@@ -108,6 +108,96 @@ fn writes_may_be_short_and_may_fail(rt: HostRuntime) {
     writes(&rt, [three, Call::Takes(0), Call::Takes(9)], failed, "1 0");
 }
 
+/// A writer that takes so many bytes a call at most, and so many in all, and then fails.
+#[derive(Drop)]
+struct Limited {
+    taken: Vec<u8>,
+    most: usize,
+    left: usize,
+}
+
+impl Write for Limited {
+    fn write(&mut self, buf: &[u8]) -> io::Result<usize> {
+        let count = self.most.min(self.left).min(buf.len());
+        if count == 0 {
+            return Err(Error::from(ErrorKind::BrokenPipe));
+        }
+        self.taken.extend_from_slice(&buf[..count])?;
+        self.left -= count;
+        Ok(count)
+    }
+
+    fn flush(&mut self) -> io::Result<()> {
+        Ok(())
+    }
+}
+
+fn hop(time: u64, lp: u32, value: u64) -> Record {
+    Record {
+        time,
+        priority: 0,
+        lp,
+        kind: 1,
+        value,
+    }
+}
+
+/// The records of two tokens that hop twice.
+fn hops() -> [Record; 6] {
+    [
+        hop(1, 0, 1),
+        hop(2, 1, 2),
+        hop(3, 1, 513),
+        hop(4, 0, 258),
+        hop(5, 0, 66049),
+        hop(6, 1, 131330),
+    ]
+}
+
+// So many bytes of their text must go out, in pieces of at most so many; and the answer tells whether it is whole.
+fn goes_out(
+    rt: &(impl Abort + AllocGlobal),
+    version: Version,
+    text: &str,
+    most: usize,
+    left: usize,
+) {
+    let mut writer = Limited {
+        taken: Vec::new(rt.alloc()),
+        most,
+        left,
+    };
+    let answer = print_records(&mut writer, &hops(), version);
+    let want = if left < text.len() {
+        Err(Fault::Output)
+    } else {
+        Ok(())
+    };
+    holds(rt, answer == want, "whole, or refused");
+    let bytes = text.as_bytes();
+    let (wanted, _) = bytes.split_at_checked(left).unwrap_or((bytes, &[]));
+    holds(rt, writer.taken.as_slice() == wanted, text);
+}
+
+const ONE: &str = "1 0 1 1\n2 1 1 2\n3 1 1 513\n4 0 1 258\n5 0 1 66049\n6 1 1 131330\n";
+
+const TWO: &str =
+    "twarp-records 2\n1 0 0 1 1\n2 0 1 1 2\n3 0 1 1 513\n4 0 0 1 258\n5 0 0 1 66049\n6 0 1 1 131330\n";
+
+/// A writer that fails has taken a beginning: just as many bytes as it takes. One byte a call is enough.
+#[test]
+fn what_goes_out_is_a_beginning(rt: HostRuntime) {
+    holds(&rt, ONE.len() == 61 && TWO.len() == 89, "61 and 89 bytes");
+    for most in [1, 100] {
+        for left in 0..62 {
+            goes_out(&rt, Version::One, ONE, most, left);
+        }
+        for left in 0..90 {
+            goes_out(&rt, Version::Two, TWO, most, left);
+        }
+    }
+}
+
 // These bytes are put into the buffer. Then so many must have been written.
 fn puts(
     rt: &impl Abort,
