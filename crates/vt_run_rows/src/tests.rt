@@ -9,5 +9,6 @@ mod refusals;
 mod replay;
 mod running;
 mod told;
+mod turns;
 mod watching;
 mod workers;
