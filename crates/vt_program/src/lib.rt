@@ -49,13 +49,13 @@ pub use vt_watch::{Progress, Unwatched, Watch};
 /// - N = 1: memory was refused. Nothing was written to `out`; or of a replay, the lines of all answers; or of a sequential
 ///   run, a beginning of the text; or of a run in threads, the committed records. If memory is refused to a step of a
 ///   replay, its answer says so, and the replay goes on.
-/// - N = 3: the committed records of a run in threads couldn't be read. The text of no records was written to `out`.
-///   It is never so with one worker.
+/// - N = 3: the committed records of a run in threads couldn't be read. Those below some earlier time were written to `out`, or
+///   none. It is never so with one worker.
 /// - N = 5: a send number of a run would pass 2^63, or a serial of a run in threads or at the starts of a replay.
 ///   Nothing was written to `out`; or of a sequential run, a beginning of the text; or of a run in threads, the
 ///   committed records.
 /// - N = 6: a worker of a run in threads made all its turns before the end of the run, and the committed records were
-///   written to `out`. Or on several workers some were written, and the next ones couldn't be read.
+///   written to `out`.
 /// - N = 7: the words or the input are refused, and nothing was written to `out`. TEXT names the first bad option in
 ///   the order of the table. It names `command-line` if the words have no meaning. It names `input` if a read failed
 ///   or was interrupted, or if the input is longer than a step text may be.

@@ -2,6 +2,7 @@
 
 mod driving;
 mod finals;
+mod gates;
 mod hand;
 mod lines;
 mod pieces;

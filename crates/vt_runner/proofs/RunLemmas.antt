@@ -2,11 +2,10 @@
 use Rattle.std.proofs.Common.{◌≡◌, ◌∙◌, ◌++◌, ◌<◌, ◌≤◌, ◌+◌, ◌⊎◌, ℕ, List, [], ◌∷◌, length, drop, Option, inl, inr, sym, ap, subst, map, append-nil, length-append, arith}
 use Rattle.std.specs.Io.KnownBytes.{Appends}
 use Rattle.std.proofs.Math.Seq.{drop-append_seam}
-use Rattle.std.proofs.lemmas.List.{nil_from_length}
 use Rattle.std.proofs.lemmas.Bool.{cases_lt}
 use Rattle.vt_key.specs.Times.{Time, opening_time}
 use Rattle.vt_key.specs.declared.fault.Fault.{Fault}
-use Rattle.vt_key.specs.declared.fault.Fault.TheVariants.{Busy, Exhausted, NotLawful, Output, TurnsSpent}
+use Rattle.vt_key.specs.declared.fault.Fault.TheVariants.{Output, TurnsSpent}
 use Rattle.vt_key.specs.Lists.{Among}
 use Rattle.vt_model.specs.declared.rows.Row.{Row}
 use Rattle.vt_model.specs.declared.rows.Record.{Record}
@@ -19,16 +18,18 @@ use Rattle.vt_model.specs.Sequential.{opening, weight, after_steps, whole_run, r
 use Rattle.vt_model.proofs.RowLemmas.{all_before}
 use Rattle.vt_model.proofs.RunLemmas.{known_sent, lists_of, reached}
 use Rattle.vt_steps.proofs.book.SequentialRows.{seq_records-begin}
-use Rattle.vt_station.specs.Crew.{IsStop, IsPieceOf, IsHandOutRefusal}
+use Rattle.vt_station.specs.declared.pieces.Standing.{Standing}
+use Rattle.vt_station.specs.declared.pieces.Standing.TheVariants.{GoesOn, Whole, Stopped}
+use Rattle.vt_station.specs.Crew.{AtJob, IsStop, IsPieceOf, IsHandOutRefusal, StandsBy}
 use Rattle.vt_station.specs.Turns.{IsLasting}
 use Rattle.vt_station.proofs.CrewLemmas.{none-at-first}
 use Rattle.vt_text.specs.declared.version.Version.{Version}
 use Rattle.vt_text.specs.Records.{record_lines, records_text}
 use Rattle.vt_text.specs.Writing.{AppendsBeginning, AppendsAllButHeld}
 use Rattle.vt_text.proofs.TextLemmas.{written, flush_fails, of_longer}
-use Rattle.vt_tasks.specs.Runs.{text_below, run_text, WritesBelow, WritesNone, StopsWork}
+use Rattle.vt_tasks.specs.Runs.{text_below, run_text, WritesBelow, StopsWork}
 use Rattle.vt_tasks.proofs.PrintLemmas.{records_text-append}
-use Rattle.vt_runner.specs.Pieces.{AreWritten, IsUnread}
+use Rattle.vt_runner.specs.Pieces.{AreWritten, IsUnread, IsOverBy}
 
 module _ {S P : Type 0} (sim : Simulation S P) (lawful : IsLawful sim) where
   -- each event of the whole run is before the end
@@ -71,13 +72,6 @@ module _ (version : Version) {S P K : Type 0} (handlers : Handlers S P K) (confi
       begins = (text-begins is.0).1;
     }
 
-    -- or none were
-    none_written : stopped ≡ [] → 1 < config.workers → Appends old new (records_text version stopped) → WritesNone config.workers (text_below version handlers config) old new
-    none_written none many h = record {
-      others = many;
-      written = subst (λ (l : List Record). Appends old new (records_text version l)) (none ∙ none-at-first (simulation_of handlers config)) h;
-    }
-
     -- with any of the reasons for which a run stops
     pub work_stops : (fault : Fault) → IsStop config fault stopped → Appends old new (records_text version stopped) → StopsWork config.workers (text_below version handlers config) (run_text version handlers config) old new fault
     work_stops fault stop h =
@@ -87,7 +81,7 @@ module _ (version : Version) {S P K : Type 0} (handlers : Handlers S P K) (confi
           | inl (inl e) ↦ subst (StopsWork config.workers below whole old new) (sym e) (part_written h)
           | inl (inr e) ↦ subst (StopsWork config.workers below whole old new) (sym e) (part_written h)
           | inr (inl e) ↦ subst (StopsWork config.workers below whole old new) (sym e) (part_written h)
-          | inr (inr e) ↦ subst (StopsWork config.workers below whole old new) (sym e.0) (none_written e.2 e.1 h)
+          | inr (inr e) ↦ subst (StopsWork config.workers below whole old new) (sym e.0) (e.1, part_written h)
         ]
 
     -- a beginning of these records was written
@@ -103,6 +97,12 @@ output_begun workers below whole old new fault is h = subst (StopsWork workers b
 
 -- ---- a run in pieces
 
+-- what a run is told by whose records couldn't be read is due
+pub unread-due : {S P : Type 0} (sim : Simulation S P) (standing : Standing) (refusal told : Fault) → IsHandOutRefusal sim refusal → IsUnread standing refusal told → IsOverBy sim standing told
+unread-due sim (Stopped fault) refusal told refused is = is
+unread-due sim Whole refusal told refused is = subst (IsHandOutRefusal sim) (sym is) refused
+unread-due sim GoesOn refusal told refused is = inl (subst (IsHandOutRefusal sim) (sym is) refused)
+
 -- the beginning of one list is the other
 joined : {X : Type 0} (n : ℕ) (before all rest : List X) → n ≡ length before → all ≡ before ++ rest → all ≡ before ++ drop n all
 joined n before all rest count is =
@@ -112,12 +112,6 @@ joined n before all rest count is =
 no-longer : {X : Type 0} (before all rest : List X) → before ≡ all ++ rest → length before ≤ length all → all ≡ before ++ []
 no-longer before all [] is few = sym (append-nil all) ∙ sym is ∙ sym (append-nil before)
 no-longer before all (x ∷ rest) is few = absurd (omega (arith, ap length is, length-append all (x ∷ rest), few))
-
--- only where other workers' places may hold the book, it is busy
-busy-many : {S P : Type 0} (sim : Simulation S P) (refusal : Fault) → IsHandOutRefusal sim refusal → refusal ≡ Busy → 1 < sim.workers
-busy-many sim refusal (inl e) is = absurd (let no : NotLawful ≡ Busy = sym e.0 ∙ is in cc)
-busy-many sim refusal (inr (inl busy)) is = busy.1
-busy-many sim refusal (inr (inr e)) is = absurd (let no : Exhausted ≡ Busy = sym e.0 ∙ is in cc)
 
 module _ {S P : Type 0} (sim : Simulation S P) (lawful : IsLawful sim) where
   -- the records below a time, and then a piece that begins behind them, are those below a later one
@@ -157,21 +151,20 @@ module _ {version : Version} {S P K : Type 0} {handlers : Handlers S P K} {confi
       | inr e ↦ subst (StopsWork config.workers (text_below version handlers config) (run_text version handlers config) old now) (sym e) written-below
     ]
 
-    -- no record was written
-    none-below : n ≡ 0 → Appends old now (text_below version handlers config opening_time)
-    none-below none =
-        let empty = nil_from_length (seq_records (simulation_of handlers config) before.time) (sym before.count ∙ none) in
-        subst (λ (l : List Record). Appends old now (records_text version l)) (empty ∙ none-at-first (simulation_of handlers config)) before.text
-
     -- or since the records couldn't be read
-    pub stops-unread : (refusal fault : Fault) → IsHandOutRefusal (simulation_of handlers config) refusal → IsUnread refusal n fault → StopsWork config.workers (text_below version handlers config) (run_text version handlers config) old now fault
-    stops-unread refusal fault refused why = elim why [
-      | inl lasting ↦ stops-lasting fault (inl lasting)
-      | inr (inl spent) ↦ stops-lasting fault (inr spent)
-      | inr (inr busy) ↦
-          subst (StopsWork config.workers (text_below version handlers config) (run_text version handlers config) old now) (sym busy.0)
-          (record { others = busy-many (simulation_of handlers config) refusal refused busy.1; written = none-below busy.2 })
+    stops-refused : (refusal fault : Fault) → 1 < config.workers → IsHandOutRefusal (simulation_of handlers config) refusal → fault ≡ refusal → StopsWork config.workers (text_below version handlers config) (run_text version handlers config) old now fault
+    stops-refused refusal fault many refused is = elim refused [
+      | inl alone ↦ absurd (omega (arith, alone.1, many))
+      | inr (inl busy) ↦ subst (StopsWork config.workers (text_below version handlers config) (run_text version handlers config) old now) (sym (is ∙ busy.0)) (many, written-below)
+      | inr (inr spent) ↦ stops-lasting fault (inl (inr (is ∙ spent.0)))
     ]
+
+    -- unless it had been stopped before
+    pub stops-unread : {M : Type 0} (jobs : List (AtJob M)) (standing : Standing) (refusal fault : Fault) → StandsBy jobs standing → 1 < config.workers → IsHandOutRefusal (simulation_of handlers config) refusal → IsUnread standing refusal fault
+        → StopsWork config.workers (text_below version handlers config) (run_text version handlers config) old now fault
+    stops-unread jobs (Stopped stopped) refusal fault stands many refused is = stops-lasting fault (inl (subst IsLasting (sym is) stands.2))
+    stops-unread jobs GoesOn refusal fault stands many refused is = stops-refused refusal fault many refused is
+    stops-unread jobs Whole refusal fault stands many refused is = stops-refused refusal fault many refused is
 
     -- a crew hands out a piece of this run, of which these records are given to be written
     module _ {own : Simulation S P} {floor : Time} {records given : List Record} (same : own ≡ simulation_of handlers config) (handed : IsPieceOf own n records floor) (is : given ≡ records) where

@@ -57,12 +57,12 @@ pub struct Streams<R, O, E> {
 ///
 /// - N = 1: memory was refused. Nothing was written; or of a sequential run, a beginning of the text; or of a replay, the
 ///   lines of all answers; or of a run in threads, the committed records.
-/// - N = 3: the committed records of a run in threads couldn't be read. The text of no records was written. It is
+/// - N = 3: the committed records of a run in threads couldn't be read. Those below some earlier time were written, or none. It is
 ///   never so with one worker.
 /// - N = 5: a send number of a run would pass 2^63, or a serial of a run in threads or at the starts of a replay. Nothing
 ///   was written; or of a sequential run, a beginning of the text; or of a run in threads, the committed records.
 /// - N = 6: a worker of a run in threads made all its turns before the end of the run, and the committed records were
-///   written. Or on several workers some were written, and the next ones couldn't be read.
+///   written.
 /// - N = 7: the words or the input are refused, and nothing was written. TEXT names the first bad option, `command-line` if
 ///   the words have no meaning, `values` if `make` makes no model of the values, or `input`.
 /// - N = 8: the step text has a bad line. TEXT names the first one. Nothing was run, and nothing was written.

@@ -1,10 +1,10 @@
 //! A run of a model, and its text.
 
-ghost use Rattle.std.specs.Prelude.{◌≡◌, OnOk, IfErr};
+ghost use Rattle.std.specs.Prelude.{◌≡◌, ◌<◌, ◌≤◌, OnOk, IfErr};
 ghost use Rattle.vt_model.specs.Histories.{IsLawful};
 ghost use Rattle.vt_model.specs.Simulation.{simulation_of};
-ghost use Rattle.vt_station.specs.Crew.{IsTold};
-ghost use Rattle.vt_runner.specs.Pieces.{AreWritten, IsUnread};
+ghost use Rattle.vt_station.specs.declared.pieces.Standing.TheVariants.{GoesOn};
+ghost use Rattle.vt_runner.specs.Pieces.{AreWritten, IsUnread, IsDue};
 ghost use Rattle.vt_tasks.specs.Runs.{WritesWhole, StopsInThreads, StopsAsSet};
 
 use std::alloc::Global;
@@ -12,9 +12,9 @@ use std::io::Write;
 use std::sync::Wait;
 use std::thread::Threads;
 use vt_key::Fault;
-use vt_model::Model as EventModel;
+use vt_model::{Config, Model as EventModel};
 use vt_options::{RunSettings, Synch};
-use vt_station::{Bells, Crew, Standing, Station, run_workers};
+use vt_station::{Bells, Crew, Open, Standing, Station, run_workers_watched};
 use vt_tasks::{Shares, print_run};
 use vt_text::print_records;
 use vt_watch::Watch;
@@ -56,7 +56,15 @@ where
     ensures ok { OnOk result (WritesWhole (M.handlers model.now) options.now (O.contents out.old) (O.contents out.new)) }
     ensures err { IfErr result (StopsInThreads (M.handlers model.now) options.now (O.contents out.old) (O.contents out.new)) }
 {
-    match run_workers(rt, alloc, options.config, model, watch, options.turns) {
+    match run_workers_watched(
+        rt,
+        alloc,
+        options.config,
+        model,
+        &Open,
+        watch,
+        options.turns,
+    ) {
         Ok(records) => print_records(out, records.as_slice(), options.text),
         Err(stopped) => {
             print_records(out, stopped.records.as_slice(), options.text)?;
@@ -65,16 +73,13 @@ where
     }
 }
 
-/// The fault that a run is told by whose records couldn't be read for this refusal, when so many had been written.
-fn fault_unread(standing: Standing, refusal: Fault, written: usize) -> Fault
-    requires told { IsTold standing }
-    ensures { IsUnread refusal written result }
+/// The fault that a run is told by whose records couldn't be read for this refusal.
+fn fault_unread(standing: Standing, refusal: Fault) -> Fault
+    ensures { IsUnread standing refusal result }
 {
-    match (standing, refusal) {
-        (Standing::Stopped(fault), _) => fault,
-        (_, Fault::Exhausted) => Fault::Exhausted,
-        (_, Fault::Busy) if written == 0 => Fault::Busy,
-        _ => Fault::TurnsSpent,
+    match standing {
+        Standing::Stopped(fault) => fault,
+        _ => refusal,
     }
 }
 
@@ -91,11 +96,14 @@ where
     M::State: Send,
     M::Kept: Send,
     requires config { crew.old.config ≡ options.now.config }
+    requires many { 1 < options.now.config.workers }
+    requires begins { crew.old.standing ≡ GoesOn }
     requires lawful { IsLawful (simulation_of (M.handlers crew.old.model) options.now.config) }
     ensures ok { (start : _) → AreWritten options.now.text (M.handlers crew.old.model) options.now.config start (O.contents out.old) 0
         → OnOk result (WritesWhole (M.handlers crew.old.model) options.now start (O.contents out.new)) }
     ensures err { (start : _) → AreWritten options.now.text (M.handlers crew.old.model) options.now.config start (O.contents out.old) 0
         → IfErr result (StopsInThreads (M.handlers crew.old.model) options.now start (O.contents out.new)) }
+    ensures due { IfErr result (IsDue (simulation_of (M.handlers crew.old.model) options.now.config) crew.new.standing) }
 {
     let mut shares = Shares::new(alloc, options.config.workers as usize);
     let mut records = Vec::new(alloc);
@@ -104,9 +112,9 @@ where
     let mut more = u64::from(FIRST_TURNS / options.config.workers);
     for _ in 0..options.turns {
         turns = options.turns.min(more.saturating_add(turns));
-        let standing = crew.work(rt, alloc, watch, turns);
+        let standing = crew.work(rt, alloc, &Open, watch, turns);
         if let Err(refusal) = crew.hand_out(written, &mut records) {
-            return Err(fault_unread(standing, refusal, written));
+            return Err(fault_unread(standing, refusal));
         }
         shares.print(rt, out, records.as_slice(), options.text)?;
         written += records.len();
@@ -121,6 +129,25 @@ where
         more = next_turns(more, records.len());
     }
     Err(Fault::TurnsSpent)
+}
+
+/// Settings with no more workers than processes: any others would have none, and the run is the same.
+fn with_own_processes(options: &RunSettings) -> RunSettings
+    ensures run { (result.text ≡ options.now.text) × (result.config.lps ≡ options.now.config.lps) × (result.config.end ≡ options.now.config.end) × (result.config.seed ≡ options.now.config.seed) }
+    ensures fewer { result.config.workers ≤ options.now.config.workers }
+{
+    let config = options.config;
+    RunSettings {
+        synch: options.synch,
+        config: Config {
+            lps: config.lps,
+            workers: config.workers.min(config.lps),
+            end: config.end,
+            seed: config.seed,
+        },
+        turns: options.turns,
+        text: options.text,
+    }
 }
 
 /// Simulates a model by Time Warp, in a thread for each worker, and writes the records of the run, in the version that
@@ -152,6 +179,25 @@ where
     print_pieces(rt, alloc, &mut crew, options, watch, out)
 }
 
+/// Simulates a model as [`print_work`] does, on no more workers than it has processes.
+fn print_optimistic<H: Threads + Wait + Sync, M: EventModel + Sync, W: Watch + Sync, O: Write>(
+    rt: &H,
+    alloc: Global,
+    model: &M,
+    options: &RunSettings,
+    watch: &W,
+    out: &mut O,
+) -> Result<(), Fault>
+where
+    M::State: Send,
+    M::Kept: Send,
+    ensures ok { OnOk result (WritesWhole (M.handlers model.now) options.now (O.contents out.old) (O.contents out.new)) }
+    ensures err { IfErr result (StopsInThreads (M.handlers model.now) options.now (O.contents out.old) (O.contents out.new)) }
+{
+    let settings = with_own_processes(options);
+    print_work(rt, alloc, model, &settings, watch, out)
+}
+
 /// Simulates a model with the kind of run that the settings name, and writes the records of the run, in the version that
 /// they name.
 ///
@@ -161,9 +207,8 @@ where
 /// In a run in threads, records are written as they are committed; with one worker, at the end. The committed records, which are
 /// those below some time, are written in that version before each of these faults: [`Fault::Memory`], also if a thread wasn't
 /// started; [`Fault::Exhausted`] if a counter would pass 2^63; and [`Fault::TurnsSpent`] if a worker made all its turns before the
-/// end of the run. [`Fault::Busy`]: the records couldn't be read, and the text of none was written. One worker alone never has it.
-/// If they couldn't be read after some were written, the fault is one of the other three, and only those below some earlier time
-/// were written.
+/// end of the run. [`Fault::Busy`]: the committed records couldn't be read, and those below some earlier time were written, or none.
+/// One worker alone never has it. There are never more workers than processes.
 ///
 /// In both, [`Fault::Output`] means that the writer failed. A beginning of the text was written.
 ///
@@ -184,6 +229,6 @@ where
 {
     match options.synch {
         Synch::Sequential => print_run(alloc, model, options, watch, out),
-        Synch::Optimistic => print_work(rt, alloc, model, options, watch, out),
+        Synch::Optimistic => print_optimistic(rt, alloc, model, options, watch, out),
     }
 }

@@ -2,7 +2,9 @@
 use Rattle.std.proofs.Common.{ℕ, List, [], ◌∷◌, ◌++◌, length, take, drop, map, Bool, true, false, cond, Option, Some, None, IfSome, IfNone, slice_index_or, Result, Ok, Err, inl, inr, subst, ap, refl, sym, ◌∙◌, arith, Vec, Global}
 use Rattle.std.proofs.Math.Seq.{take-append_seam}
 use Rattle.std.proofs.lemmas.Bool.{le-ltb}
+use Rattle.std.proofs.lemmas.List.Elements.{recursion_from_All}
 use Rattle.std.proofs.lemmas.Option.{slice_get_within, get_or_from_slice_get}
+use Rattle.std.specs.List.{AllByRecursion}
 use Rattle.std.specs.Option.{unwrap_or}
 use Rattle.std.specs.Prelude.{◌≡◌, ◌<◌, ◌⊎◌, IfOk, IfErr, MatchResult}
 use Rattle.vt_key.specs.Times.{Time, opening_time, time_before}
@@ -20,7 +22,8 @@ use Rattle.vt_station.specs.declared.driver.Outcome.TheVariants.{Closed}
 use Rattle.vt_places.specs.Calls.{AreRecordsShown}
 use Rattle.vt_key.specs.declared.fault.Fault.TheVariants.{Busy, TurnsSpent}
 use Rattle.vt_model.specs.declared.settings.Config.{Config}
-use Rattle.vt_station.specs.Crew.{AtJob, IsLeftBy, IsStop, IsToldBy, IsClosedAt, NoneClosed, first_fault}
+use Rattle.vt_station.specs.declared.pieces.Standing.TheVariants.{GoesOn}
+use Rattle.vt_station.specs.Crew.{AtJob, IsLeftBy, IsStop, IsToldBy, IsClosedAt, NoneClosed, AreUnbegun, fault_or, first_fault, StandsBy}
 use Rattle.vt_station.specs.Turns.{IsLasting}
 
 -- the worker closed the book, and its place knows it
@@ -96,3 +99,20 @@ module _ {M : Type 0} (jobs : List (AtJob M)) (some : 0 < length jobs) where
   pub reader-closed : (closer : Option ℕ) → IfSome closer (IsClosedAt jobs) → IfNone closer (NoneClosed jobs) → (NoneClosed jobs → ⊥) → (d : AtJob M) → (slice_index_or jobs (unwrap_or closer 0) d).outcome ≡ Some Closed
   reader-closed (Some i) closed none some-closed d = ap (λ (j : AtJob M). j.outcome) (get_or_from_slice_get jobs i closed.0 d closed.1) ∙ closed.2
   reader-closed None closed none some-closed d = absurd (some-closed none)
+
+-- a run of which no work has begun goes on
+module _ {M : Type 0} where
+  none-yet : (jobs : List (AtJob M)) → AllByRecursion (λ j. j.outcome ≡ None) jobs → first_fault jobs ≡ TurnsSpent
+  none-yet [] unbegun = refl
+  none-yet (job ∷ jobs) unbegun = ap (λ (o : Option Outcome). fault_or o (first_fault jobs)) unbegun.0 ∙ none-yet jobs unbegun.1
+
+  pub unbegun-stands : (jobs : List (AtJob M)) → AreUnbegun jobs → StandsBy jobs GoesOn
+  unbegun-stands jobs unbegun = (
+    λ i d below closed. (let no : Some Closed ≡ None = sym closed ∙ unbegun i d below in cc),
+    none-yet jobs (recursion_from_All (λ (j : AtJob M). j.outcome ≡ None) jobs unbegun),
+  )
+
+  -- a closer was found, so not none closed the book
+  pub closer-there : (jobs : List (AtJob M)) (i : ℕ) → IsClosedAt jobs i → NoneClosed jobs → ⊥
+  closer-there jobs i closed none =
+      none i closed.0 (slice_get_within jobs i closed.0 closed.1) (ap (λ (j : AtJob M). j.outcome) (get_or_from_slice_get jobs i closed.0 closed.0 closed.1) ∙ closed.2)

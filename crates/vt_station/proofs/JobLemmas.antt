@@ -5,12 +5,13 @@ use Rattle.std.proofs.Math.Seq.{get_or-append_seam}
 use Rattle.std.proofs.lemmas.Bool.{cases_lt}
 use Rattle.std.proofs.lemmas.List.Elements.{All-push}
 use Rattle.std.specs.List.{remove}
-use Rattle.std.specs.Prelude.{IfOk, MatchResult}
+use Rattle.std.specs.Prelude.{IfOk, IfSome, MatchResult}
 use Rattle.atomic_table.specs.Seated.{TableId}
 use Rattle.vt_model.specs.declared.settings.Config.{Config}
 use Rattle.vt_model.specs.Handler.{Handlers}
 use Rattle.vt_key.specs.Times.{Time, opening_time}
 use Rattle.vt_key.specs.declared.fault.Fault.{Fault}
+use Rattle.vt_key.specs.declared.fault.Fault.TheVariants.{Memory}
 use Rattle.vt_model.specs.declared.rows.Record.{Record}
 use Rattle.vt_model.specs.Simulation.{Simulation, simulation_of}
 use Rattle.vt_model.specs.Sequential.{seq_records}
@@ -26,7 +27,7 @@ use Rattle.vt_station.specs.declared.driver.Outcome.{Outcome}
 use Rattle.vt_station.specs.declared.driver.Outcome.TheVariants.{Spent, Closed, Ended, Refused}
 use Rattle.vt_station.specs.declared.job.Post.{Post}
 use Rattle.vt_station.specs.declared.job.Post.TheVariants.{New, Begun, Left}
-use Rattle.vt_station.specs.Crew.{AtJob, StandsThere, StandsFrom, view_of, IsLeftBy, IsJob, IsSameJob, AllAt, AreInOrder, IsPieceOf}
+use Rattle.vt_station.specs.Crew.{AtJob, StandsThere, CannotBegin, StandsFrom, view_of, IsLeftBy, IsJob, IsSameJob, AllAt, AreInOrder, AreUnbegun, IsPieceOf}
 use Rattle.vt_station.proofs.CrewLemmas.{closed-left, none-at-first}
 
 -- the first of some places, and the places behind it
@@ -48,6 +49,10 @@ more-in-order {M} jobs job order worker w d below =
 -- and of the same model and config
 pub more-at : {M : Type 0} (model : M) (config : Config) (jobs : List (AtJob M)) (job : AtJob M) → AllAt model config jobs → (job.model ≡ model) × (job.config ≡ config) → AllAt model config (jobs ++ job ∷ [])
 more-at {M} model config jobs job all told = All-push (λ (j : AtJob M). (j.model ≡ model) × (j.config ≡ config)) jobs job all told
+
+-- and has not begun either
+pub more-unbegun : {M : Type 0} (jobs : List (AtJob M)) (job : AtJob M) → AreUnbegun jobs → job.outcome ≡ None → AreUnbegun (jobs ++ job ∷ [])
+more-unbegun {M} jobs job unbegun begins = All-push (λ (j : AtJob M). j.outcome ≡ None) jobs job unbegun begins
 
 -- what is taken stands there, and knows how the last piece ended
 pub stands-taken : {M S P K : Type 0} {handlers : M → Handlers S P K} {told model : M} {known config : Config} {table : TableId} {worker : ℕ} {post taken : Option (Post M S P K)} {outcome : Option Outcome} {finals : Option (List ℕ)} {there : Post M S P K}
@@ -120,6 +125,12 @@ pub stands-from : {M S P K : Type 0} (sim : Simulation S P) {model : M} {config 
 stands-from sim worker (New place) stands from = absurd from
 stands-from sim {model} {config} {table} {w} worker (Begun same) stands from = subst (λ a. StandsThere sim model config table w (Begun a)) (sym from) stands
 stands-from {P = P} sim worker (Left place) stands from = (from.0 ∙ stands.2, ap (λ (v : View P). v.worker) from.1 ∙ stands.3)
+
+-- where a worker that can't begin has a fault, memory was refused
+pub not-begun : {M S P K : Type 0} (post : Post M S P K) (why : Option Fault) → CannotBegin post why → IfSome why (λ fault. fault ≡ Memory)
+not-begun (New place) why is = subst (λ (o : Option Fault). IfSome o (λ fault. fault ≡ Memory)) (sym is) refl
+not-begun (Begun worker) why is = absurd is
+not-begun (Left place) why is = subst (λ (o : Option Fault). IfSome o (λ fault. fault ≡ Memory)) (sym is) tt
 
 pub view-from : {M S P K : Type 0} (worker : AtWork M S P K) (post : Post M S P K) → StandsFrom worker post → view_of post ≡ worker.view
 view-from worker (New place) from = absurd from

@@ -2,7 +2,7 @@
 use Rattle.std.specs.Prelude.{◌≡◌, ◌⊎◌, ℕ, ◌<◌, List, [], ◌∷◌, length, drop, ◌≤◌, ◌^◌, All, Option, Some, None, slice_get, slice_index_or, IfSome}
 use Rattle.atomic_table.specs.Seated.{TableId}
 use Rattle.vt_key.specs.declared.fault.Fault.{Fault}
-use Rattle.vt_key.specs.declared.fault.Fault.TheVariants.{Busy, TurnsSpent}
+use Rattle.vt_key.specs.declared.fault.Fault.TheVariants.{Memory, Busy, TurnsSpent}
 use Rattle.vt_model.specs.declared.settings.Config.{Config}
 use Rattle.vt_model.specs.declared.rows.Record.{Record}
 use Rattle.vt_model.specs.Handler.{Handlers}
@@ -14,7 +14,7 @@ use Rattle.vt_places.specs.declared.view.View.{View}
 use Rattle.vt_station.specs.declared.job.Post.{Post}
 use Rattle.vt_station.specs.declared.job.Post.TheVariants.{New, Begun, Left}
 use Rattle.vt_station.specs.declared.pieces.Standing.{Standing}
-use Rattle.vt_station.specs.declared.pieces.Standing.TheVariants.{Whole, Stopped}
+use Rattle.vt_station.specs.declared.pieces.Standing.TheVariants.{GoesOn, Whole, Stopped}
 use Rattle.vt_station.specs.declared.driver.Outcome.{Outcome}
 use Rattle.vt_station.specs.declared.driver.Outcome.TheVariants.{Closed, Refused}
 use Rattle.vt_places.specs.Told.{place_table, place_view}
@@ -47,6 +47,12 @@ abbrev pub StandsFrom : {M S P K : Type 0} → AtWork M S P K → Post M S P K �
 StandsFrom worker (New place) = ⊥
 StandsFrom worker (Begun same) = same ≡ worker
 StandsFrom worker (Left place) = (place_table place ≡ worker.table) × (place_view place ≡ worker.view)
+
+-- why a worker that stands so can't begin: memory was refused for its kernel; or it has left, and there is no fault
+abbrev pub CannotBegin : {M S P K : Type 0} → Post M S P K → Option Fault → Type 0
+CannotBegin (New place) why = why ≡ Some Memory
+CannotBegin (Begun worker) why = ⊥
+CannotBegin (Left place) why = why ≡ None
 
 -- how the last piece of a worker's work ended, its place knows
 abbrev pub IsLeftBy : {P : Type 0} → View P → Option Outcome → Type 0
@@ -88,6 +94,10 @@ IsClosedAt {M} jobs i = (job : AtJob M) × (slice_get jobs i ≡ Some job) × (j
 -- no worker closed the book
 abbrev pub NoneClosed : {M : Type 0} → List (AtJob M) → Type 0
 NoneClosed jobs = All (λ j. j.outcome ≡ Some Closed → ⊥) jobs
+
+-- no worker's work has ended, or begun
+abbrev pub AreUnbegun : {M : Type 0} → List (AtJob M) → Type 0
+AreUnbegun jobs = All (λ j. j.outcome ≡ None) jobs
 
 -- no worker before that of job i closed the book
 abbrev pub NoneClosedBefore : {M : Type 0} → List (AtJob M) → ℕ → Type 0
@@ -132,21 +142,23 @@ pub record IsPieceOf {S P : Type 0} (sim : Simulation S P) (from : ℕ) (records
   pub few : length (seq_records sim floor) < 2 ^ 64
   pub rest : records ≡ drop from (seq_records sim floor)
 
--- a run in pieces stops for what no later turn mends
-abbrev pub IsTold : Standing → Type 0
-IsTold (Stopped fault) = IsLasting fault
-IsTold _ = Unit {0}
+-- how a run in pieces stands, by how the work of its workers has ended: a worker closed the book; or none did, and the first that
+-- had a fault had this one, which no later turn mends; or none had one
+abbrev pub StandsBy : {M : Type 0} → List (AtJob M) → Standing → Type 0
+StandsBy jobs Whole = NoneClosed jobs → ⊥
+StandsBy jobs (Stopped fault) = NoneClosed jobs × (fault ≡ first_fault jobs) × IsLasting fault
+StandsBy jobs GoesOn = NoneClosed jobs × (first_fault jobs ≡ TurnsSpent)
 
 -- what a contract sees of the workers of a run in pieces
 pub record AtCrew (M : Type 0) : Type 0 where
   pub model : M
   pub config : Config
+  pub jobs : List (AtJob M)
   pub standing : Standing
 
--- what holds of them between calls: they work for this model and this config, there are some, and if the run is whole, one of them
--- closed the book
+-- what holds of them between calls: they work for this model and this config, there are some, and the run stands as their work has
+-- ended
 pub record IsCrew {M : Type 0} (model : M) (config : Config) (standing : Standing) (jobs : List (AtJob M)) : Type 0 where
   pub told : AllAt model config jobs
   pub some : 0 < length jobs
-  pub whole : standing ≡ Whole → NoneClosed jobs → ⊥
-  pub stops : IsTold standing
+  pub stands : StandsBy jobs standing

@@ -14,6 +14,7 @@ ghost use Rattle.vt_station.specs.Crew.{IsSameJob, IsSameWork, AllAt, AreInOrder
 
 use crate::bell::Bells;
 use crate::driver::{Outcome, Wanted};
+use crate::gate::Gate;
 use crate::job::{Job, Task, jobs_at};
 use std::alloc::Global;
 use std::sync::Wait;
@@ -22,7 +23,7 @@ use std::thread::Threads;
 use vt_key::Fault;
 use vt_model::{Config, Model as EventModel, Record};
 use vt_places::Station;
-use vt_watch::Watch;
+use vt_watch::{Unwatched, Watch};
 
 /// A run that stopped before its end: why, and the records that were committed, a beginning of all.
 #[derive(Drop)]
@@ -206,12 +207,12 @@ fn finish_with(
 }
 
 /// Does all workers' work, each worker's in a thread of its own.
-pub(crate) fn work_all<R: Threads + Wait + Sync, M: EventModel + Sync, W: Watch + Sync>(
-    rt: &R,
-    alloc: Global,
-    task: &Task<'_, W>,
-    jobs: &mut [Job<'_, M>],
-)
+pub(crate) fn work_all<
+    R: Threads + Wait + Sync,
+    M: EventModel + Sync,
+    G: Gate + Sync,
+    W: Watch + Sync,
+>(rt: &R, alloc: Global, task: &Task<'_, G, W>, jobs: &mut [Job<'_, M>])
 where
     M::State: Send,
     M::Kept: Send,
@@ -230,12 +231,12 @@ where
 }
 
 /// Makes a station and does all workers' work at it. Where records alone are wanted, there are no final values.
-fn run_crew<R: Threads + Wait + Sync, M: EventModel + Sync, W: Watch + Sync>(
+fn run_crew<R: Threads + Wait + Sync, M: EventModel + Sync, G: Gate + Sync, W: Watch + Sync>(
     rt: &R,
     alloc: Global,
     config: Config,
     model: &M,
-    task: &Task<'_, W>,
+    task: &Task<'_, G, W>,
 ) -> Result<Finished, Stopped>
 where
     M::State: Send,
@@ -267,18 +268,45 @@ where
 /// run, in the order of the sequential run.
 ///
 /// A worker makes at most `max_turns` turns. In each it takes its mail in, undoes what that overtakes, executes at most sixteen events,
-/// the least first, sends what they sent, joins the round of global virtual time and commits. `watch` is told of it, in the workers'
-/// threads. A worker that can't go on sleeps until another one lets it. Once a worker has left before the end of the run,
+/// the least first, sends what they sent, joins the round of global virtual time and commits. Each execution goes through `gate`.
+/// A worker that can't go on sleeps until another one lets it. Once a worker has left before the end of the run,
 /// the others leave within a few turns. All threads are joined before the answer; nothing promises that there is one.
 ///
 /// [`Stopped`]: memory was refused, or the machine didn't start a thread for each worker; a count would pass 2^63; a worker made all
 /// its turns before the end of the run; or the committed records couldn't be read. Its records are those below some time, a
 /// beginning of all.
-pub fn run_workers<R: Threads + Wait + Sync, M: EventModel + Sync, W: Watch + Sync>(
+pub fn run_workers<R: Threads + Wait + Sync, M: EventModel + Sync, G: Gate + Sync>(
     rt: &R,
     alloc: Global,
     config: Config,
     model: &M,
+    gate: &G,
+    max_turns: u64,
+) -> Result<Vec<Record>, Stopped>
+where
+    M::State: Send,
+    M::Kept: Send,
+    ensures whole { IfOk result (λ v. v.items ≡ seq_records (simulation_of (M.handlers model.now) config) (end_of config)) }
+    ensures begun { IfErr result (λ stopped. (t : TimeValue) × (stopped.records.items ≡ seq_records (simulation_of (M.handlers model.now) config) t)) }
+    ensures fault { IfErr result (λ stopped. IsStop config stopped.fault stopped.records.items) }
+{
+    run_workers_watched(rt, alloc, config, model, gate, &Unwatched, max_turns)
+}
+
+/// Runs a model as [`run_workers`] does, and tells `watch` of it, in the workers' threads.
+///
+/// [`Stopped`]: as [`run_workers`] says.
+pub fn run_workers_watched<
+    R: Threads + Wait + Sync,
+    M: EventModel + Sync,
+    G: Gate + Sync,
+    W: Watch + Sync,
+>(
+    rt: &R,
+    alloc: Global,
+    config: Config,
+    model: &M,
+    gate: &G,
     watch: &W,
     max_turns: u64,
 ) -> Result<Vec<Record>, Stopped>
@@ -290,6 +318,7 @@ where
     ensures fault { IfErr result (λ stopped. IsStop config stopped.fault stopped.records.items) }
 {
     let task = Task {
+        gate,
         watch,
         turns: max_turns,
         wanted: Wanted::Records,
@@ -300,15 +329,21 @@ where
     }
 }
 
-/// Runs a model as [`run_workers`] does, and gives the final value of each process too: what the model's `finish` makes of its
+/// Runs a model as [`run_workers_watched`] does, and gives the final value of each process too: what the model's `finish` makes of its
 /// state after the whole run. Each worker makes those of its own processes at the end of its work.
 ///
 /// [`Stopped`]: as [`run_workers`] says; or memory was refused for the final values, and its records are all of the run.
-pub fn run_workers_to_finals<R: Threads + Wait + Sync, M: EventModel + Sync, W: Watch + Sync>(
+pub fn run_workers_to_finals<
+    R: Threads + Wait + Sync,
+    M: EventModel + Sync,
+    G: Gate + Sync,
+    W: Watch + Sync,
+>(
     rt: &R,
     alloc: Global,
     config: Config,
     model: &M,
+    gate: &G,
     watch: &W,
     max_turns: u64,
 ) -> Result<Finished, Stopped>
@@ -321,6 +356,7 @@ where
     ensures fault { IfErr result (λ stopped. IsStop config stopped.fault stopped.records.items) }
 {
     let task = Task {
+        gate,
         watch,
         turns: max_turns,
         wanted: Wanted::Finals,

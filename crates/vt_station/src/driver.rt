@@ -11,6 +11,7 @@ ghost use Rattle.vt_places.specs.AtWork.{IsAtWork, IsAtSamePlace, IsAtSameStatio
 ghost use Rattle.vt_station.specs.Turns.{IsLasting, IsPassedOver, IsPartOfTurn, HasEnded};
 
 use crate::bell::Bells;
+use crate::gate::Gate;
 use crate::pace::Pace;
 use std::alloc::Global;
 use std::hint::spin_loop;
@@ -264,7 +265,7 @@ impl<'a, M: EventModel> Driver<'a, M> {
     }
 
     /// Executes events, each time the one of least rank, and returns how many.
-    fn execute_some<W: Watch>(&mut self, watch: &W, turn: u64) -> Result<u32, Fault>
+    fn execute_some<G: Gate>(&mut self, gate: &G, turn: u64) -> Result<u32, Fault>
         ensures part { IsPartOfTurn self.old self.new result }
     {
         let most = self.pace.allowed();
@@ -273,7 +274,7 @@ impl<'a, M: EventModel> Driver<'a, M> {
             let Some(lp) = self.kernel.next() else {
                 return Ok(done);
             };
-            watch.before_execute(self.number, turn);
+            gate.before_execute(self.number, turn);
             let answer = self
                 .kernel
                 .execute_reusing(self.alloc, self.model, lp, &mut out);
@@ -284,32 +285,35 @@ impl<'a, M: EventModel> Driver<'a, M> {
         Ok(most)
     }
 
-    /// Sends to each worker that there are letters for, until all are sent or another place has claimed an inbox. It begins
-    /// with the worker behind this one, so that the workers don't all begin at one inbox.
+    /// Tries once to send to each worker that there are letters for. It begins with the worker behind this one, so that the
+    /// workers don't all begin at one inbox.
     fn post_all(&mut self) -> Result<(), Fault>
         ensures part { IsPartOfTurn self.old self.new result }
     {
-        let mut from = self.number.saturating_add(1);
-        for _ in 0..self.config.workers {
-            let Some(v) = self.receiver_from(from) else {
-                break;
-            };
-            let answer = self.station.post(&mut self.place, &mut self.kernel, v);
-            if !self.is_done(answer)? {
-                break;
-            }
-            self.bells.post(v);
-            from = v.saturating_add(1);
-        }
-        Ok(())
+        self.post_between(self.number, self.config.workers)?;
+        self.post_between(0, self.number)
     }
 
-    /// The first worker that there are letters for, of those from this number on and then of all.
-    fn receiver_from(&self, from: u32) -> Option<u32> {
-        match self.kernel.receiver_from(from) {
-            None => self.kernel.receiver_from(0),
-            found => found,
+    /// Tries once to send to each of the workers from number `from` and below number `end` that there are letters for. An inbox that
+    /// another place has claimed is passed over.
+    fn post_between(&mut self, from: u32, end: u32) -> Result<(), Fault>
+        ensures part { IsPartOfTurn self.old self.new result }
+    {
+        let mut next = from;
+        for _ in from..end {
+            let Some(v) = self.kernel.receiver_from(next) else {
+                break;
+            };
+            if v >= end {
+                break;
+            }
+            let answer = self.station.post(&mut self.place, &mut self.kernel, v);
+            if self.is_done(answer)? {
+                self.bells.post(v);
+            }
+            next = v + 1;
         }
+        Ok(())
     }
 
     /// Whether a call was done. Notes if another place had claimed the cell. An error is a fault that no later turn mends.
@@ -417,7 +421,7 @@ impl<'a, M: EventModel> Driver<'a, M> {
 
 impl<'a, M: EventModel> Driver<'a, M> {
     /// A turn up to its cut: fetches and accepts mail, executes events, sends mail. Returns whether an event was executed.
-    fn work<W: Watch>(&mut self, watch: &W, turn: u64) -> Result<bool, Fault>
+    fn work<G: Gate>(&mut self, gate: &G, turn: u64) -> Result<bool, Fault>
         ensures part { IsPartOfTurn self.old self.new result }
     {
         self.fetch()?;
@@ -426,7 +430,7 @@ impl<'a, M: EventModel> Driver<'a, M> {
         self.home_all()?;
         self.settle_touched();
         let before = self.kernel.outbox_len();
-        let executed = self.execute_some(watch, turn)?;
+        let executed = self.execute_some(gate, turn)?;
         let after = self.kernel.outbox_len();
         self.pace.make(after.saturating_sub(before));
         self.executed = self.executed.saturating_add(u64::from(executed));
@@ -451,10 +455,10 @@ impl<'a, M: EventModel> Driver<'a, M> {
     }
 
     /// One turn, all but the close of the book.
-    fn turn<W: Watch>(&mut self, watch: &W, turn: u64) -> Result<(), Fault>
+    fn turn<G: Gate, W: Watch>(&mut self, gate: &G, watch: &W, turn: u64) -> Result<(), Fault>
         ensures part { IsPartOfTurn self.old self.new result }
     {
-        let executed = self.work(watch, turn)?;
+        let executed = self.work(gate, turn)?;
         let agreed = self.agree()?;
         let committed = self.commit_risen()?;
         if committed {
@@ -519,7 +523,13 @@ impl<'a, M: EventModel> Driver<'a, M> {
 
     /// Makes turn after turn, until the book is closed, a call is refused for good, or the worker has made so many turns since it
     /// began.
-    pub(crate) fn run<R: Wait, W: Watch>(&mut self, rt: &R, watch: &W, turns: u64) -> Outcome
+    pub(crate) fn run<R: Wait, G: Gate, W: Watch>(
+        &mut self,
+        rt: &R,
+        gate: &G,
+        watch: &W,
+        turns: u64,
+    ) -> Outcome
         ensures same { IsAtSameStation self.old self.new }
         ensures ended { HasEnded self.new.view result }
     {
@@ -529,7 +539,7 @@ impl<'a, M: EventModel> Driver<'a, M> {
                 break;
             }
             self.turns = turn + 1;
-            if let Err(fault) = self.turn(watch, turn + 1) {
+            if let Err(fault) = self.turn(gate, watch, turn + 1) {
                 return Outcome::Refused(fault);
             }
             if let Some(outcome) = self.close() {

@@ -7,15 +7,16 @@ ghost use Rattle.vt_model.specs.Simulation.{simulation_of};
 ghost use Rattle.vt_model.specs.Sequential.{seq_records};
 ghost use Rattle.vt_model.specs.Settings.{end_of};
 ghost use Rattle.vt_steps.specs.Finals.{final_value};
-ghost use Rattle.vt_station.specs.declared.driver.Outcome.TheVariants.{Closed};
+ghost use Rattle.vt_station.specs.declared.driver.Outcome.TheVariants.{Spent, Closed};
 ghost use Rattle.vt_station.specs.declared.job.Post.TheVariants.{Begun};
 ghost use Rattle.vt_places.specs.Told.{station_model, station_config, station_table, place_table, place_view};
 ghost use Rattle.vt_places.specs.Making.{IsNew, AreNew};
 ghost use Rattle.vt_places.specs.Calls.{IsHandOutRefusal};
-ghost use Rattle.vt_station.specs.Crew.{IsSameJob, AllAt, AreInOrder, StandsThere, StandsFrom, view_of, table_of, IsPieceOf};
+ghost use Rattle.vt_station.specs.Crew.{IsSameJob, AllAt, AreInOrder, AreUnbegun, CannotBegin, StandsThere, StandsFrom, view_of, table_of, IsPieceOf};
 
 use crate::bell::{Bells, Start};
 use crate::driver::{Driver, Outcome, Wanted};
+use crate::gate::Gate;
 use std::alloc::Global;
 use std::marker::Model;
 use std::sync::Wait;
@@ -25,9 +26,10 @@ use vt_model::{Config, Model as EventModel, Record};
 use vt_places::{Place, Station};
 use vt_watch::Watch;
 
-/// What is asked of all workers in a piece of a run, and what watches them.
+/// What is asked of all workers in a piece of a run, what their executions go through, and what watches them.
 #[derive(Drop)]
-pub(crate) struct Task<'a, W> {
+pub(crate) struct Task<'a, G, W> {
+    pub(crate) gate: &'a G,
     pub(crate) watch: &'a W,
     // How many turns each worker makes at most, counted from the beginning of the run.
     pub(crate) turns: u64,
@@ -92,7 +94,7 @@ fn begin<'a, M: EventModel>(
     requires told { (station_model station.now ≡ model.now) × (station_config station.now ≡ config) }
     requires there { StandsThere (simulation_of (M.handlers model.now) config) model.now config (station_table station.now) worker post }
     ensures begun { IfOk result (λ driver. StandsThere (simulation_of (M.handlers model.now) config) model.now config (station_table station.now) worker (Begun driver)) }
-    ensures refused { IfErr result (λ not. (not.0 ≡ post.entry) × IfSome not.1 (λ fault. fault ≡ Memory)) }
+    ensures refused { IfErr result (λ not. (not.0 ≡ post.entry) × CannotBegin post.entry not.1) }
 {
     match post {
         Post::Begun(driver) => Ok(driver),
@@ -107,6 +109,7 @@ fn begin<'a, M: EventModel>(
 /// Where a worker stands after a piece of its work that ended so. Where there is more to do, it keeps its kernel.
 fn rest<'a, M: EventModel>(driver: Driver<'a, M>, outcome: Outcome) -> Post<'a, M>
     ensures there { StandsFrom driver.entry result }
+    ensures kept { outcome ≡ Spent → result ≡ Begun driver.entry }
 {
     match outcome {
         Outcome::Spent => Post::Begun(driver),
@@ -146,7 +149,7 @@ fn leave<M: EventModel>(post: Post<'_, M>) -> Place<M::Payload>
 
 impl<'a, M: EventModel> Job<'a, M> {
     /// Makes the kernel, unless it is made, and all turns of the worker that are left, and then the final values if they are wanted.
-    fn work<R: Wait, W: Watch>(&mut self, rt: &R, alloc: Global, task: &Task<'_, W>)
+    fn work<R: Wait, G: Gate, W: Watch>(&mut self, rt: &R, alloc: Global, task: &Task<'_, G, W>)
         ensures same { IsSameJob self.old self.new }
     {
         let Some(post) = self.post.take() else {
@@ -162,7 +165,7 @@ impl<'a, M: EventModel> Job<'a, M> {
             post,
         ) {
             Ok(mut driver) => {
-                let outcome = driver.run(rt, task.watch, task.turns);
+                let outcome = driver.run(rt, task.gate, task.watch, task.turns);
                 driver.tell(task.watch);
                 self.outcome = Some(outcome);
                 self.finals = driver.finals(task.wanted);
@@ -180,7 +183,12 @@ impl<'a, M: EventModel> Job<'a, M> {
 
 impl<'a, M: EventModel> Job<'a, M> {
     /// The worker's work in a piece of the run, once all workers have begun it. It lets the others know how it ends.
-    pub(crate) fn run<R: Wait, W: Watch>(&mut self, rt: &R, alloc: Global, task: &Task<'_, W>)
+    pub(crate) fn run<R: Wait, G: Gate, W: Watch>(
+        &mut self,
+        rt: &R,
+        alloc: Global,
+        task: &Task<'_, G, W>,
+    )
         ensures same { IsSameJob self.old self.new }
     {
         match self.bells.begin(rt) {
@@ -282,6 +290,7 @@ pub(crate) fn jobs_at<'a, M: EventModel>(
     requires places { AreNew (simulation_of (M.handlers model.now) config) (station_table station.now) 0 places.items }
     ensures told { IfOk result (λ v. AllAt model.now config v.items × (length v.items ≡ config.workers)) }
     ensures order { IfOk result (λ v. AreInOrder v.items) }
+    ensures begins { IfOk result (λ v. AreUnbegun v.items) }
     ensures refused { IfErr result (λ fault. fault ≡ Memory) }
 {
     let mut places = places;

@@ -4,12 +4,14 @@
 mod bell;
 mod crew;
 mod driver;
+mod gate;
 mod job;
 mod pace;
 mod pieces;
 
 pub use bell::Bells;
-pub use crew::{Finished, Stopped, run_workers, run_workers_to_finals};
+pub use crew::{Finished, Stopped, run_workers, run_workers_to_finals, run_workers_watched};
+pub use gate::{Gate, Open};
 pub use pieces::{Crew, Standing};
 pub use vt_places::{NotMade, Place, Station, Worker, places_tell_the_list};
 pub use vt_watch::{Progress, Unwatched, Watch};

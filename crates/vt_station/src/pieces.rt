@@ -9,12 +9,12 @@ ghost use Rattle.vt_places.specs.Told.{station_model, station_config, station_ta
 ghost use Rattle.vt_places.specs.Making.{AreNew};
 ghost use Rattle.vt_places.specs.Calls.{IsHandOutRefusal};
 ghost use Rattle.vt_station.specs.declared.pieces.Standing.TheVariants.{GoesOn, Whole};
-ghost use Rattle.vt_station.specs.Turns.{IsLasting};
-ghost use Rattle.vt_station.specs.Crew.{NoneClosed, IsPieceOf, IsTold};
+ghost use Rattle.vt_station.specs.Crew.{AreUnbegun, IsPieceOf, StandsBy};
 
 use crate::bell::Bells;
 use crate::crew::{closer_of, fault_of, work_all};
 use crate::driver::Wanted;
+use crate::gate::Gate;
 use crate::job::{Job, Task, jobs_at};
 use std::alloc::Global;
 use std::marker::Model;
@@ -38,7 +38,7 @@ pub enum Standing {
 
 /// All workers of a run in pieces, which stand at their places between one piece and the next.
 ///
-/// The type guarantees that where the run is whole, a worker has closed the book.
+/// The type guarantees that the run stands as the work of its workers has ended.
 #[derive(Drop)]
 pub struct Crew<'a, M: EventModel> {
     jobs: Vec<Job<'a, M>>,
@@ -53,7 +53,7 @@ impl<'a, M: EventModel> Model for Crew<'a, M> {
 
     ghost Value = { AtCrew M };
 
-    ghost view = { λ c. record { model = c.model.now; config = c.config; standing = c.standing } };
+    ghost view = { λ c. record { model = c.model.now; config = c.config; jobs = c.jobs.items; standing = c.standing } };
 
     ghost invariant = { λ c. IsCrew c.model.now c.config c.standing c.jobs.items };
 }
@@ -73,7 +73,7 @@ impl<'a, M: EventModel> Crew<'a, M> {
         requires told { (station_model station.now ≡ model.now) × (station_config station.now ≡ config) }
         requires count { length places.items ≡ config.workers }
         requires places { AreNew (simulation_of (M.handlers model.now) config) (station_table station.now) 0 places.items }
-        ensures made { IfOk result (λ crew. (crew.model ≡ model.now) × (crew.config ≡ config) × (crew.standing ≡ GoesOn)) }
+        ensures made { IfOk result (λ crew. (crew.model ≡ model.now) × (crew.config ≡ config) × (crew.standing ≡ GoesOn) × AreUnbegun crew.jobs) }
         ensures refused { IfErr result (λ fault. fault ≡ Memory) }
     {
         let jobs = jobs_at(alloc, station, bells, model, config, places)?;
@@ -90,10 +90,11 @@ impl<'a, M: EventModel> Crew<'a, M> {
     /// began, and returns how the run stands then. A run that doesn't go on is left as it is. All threads are joined.
     ///
     /// What a worker does in a turn, [`run_workers`](crate::run_workers) says.
-    pub fn work<R: Threads + Wait + Sync, W: Watch + Sync>(
+    pub fn work<R: Threads + Wait + Sync, G: Gate + Sync, W: Watch + Sync>(
         &mut self,
         rt: &R,
         alloc: Global,
+        gate: &G,
         watch: &W,
         turns: u64,
     ) -> Standing
@@ -102,11 +103,12 @@ impl<'a, M: EventModel> Crew<'a, M> {
         M::State: Send,
         M::Kept: Send,
         ensures same { (self.new.model ≡ self.old.model) × (self.new.config ≡ self.old.config) }
-        ensures told { (result ≡ self.new.standing) × IsTold result }
+        ensures told { (result ≡ self.new.standing) × StandsBy self.new.jobs result }
         ensures over { (self.old.standing ≡ GoesOn → ⊥) → self.new ≡ self.old }
     {
         if let Standing::GoesOn = self.standing {
             let task = Task {
+                gate,
                 watch,
                 turns,
                 wanted: Wanted::Records,
@@ -139,8 +141,7 @@ impl<'a, M: EventModel> Crew<'a, M> {
 
 /// How the run stands after the work of all.
 fn standing_of<M: EventModel>(jobs: &[Job<'_, M>]) -> Standing
-    ensures whole { result ≡ Whole → NoneClosed jobs.now → ⊥ }
-    ensures told { IsTold result }
+    ensures { StandsBy jobs.now result }
 {
     if closer_of(jobs).is_some() {
         return Standing::Whole;

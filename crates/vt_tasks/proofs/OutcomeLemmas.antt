@@ -40,7 +40,7 @@ module _ (p : Program) (words : List Text) (r : p.Run) (input old new : Option (
   work_ends : p.synch_of r ≡ Optimistic → (fault : Fault) → StopsWork (p.workers_of r) (p.text_below r) (p.text_of r) old new fault → EndsWith p words fault input old new
   work_ends is Memory h = inr (inr (inl (record { options = r; asked = asked; optimistic = is; committed = h })))
   work_ends is NotLawful h = h
-  work_ends is Busy h = record { options = r; asked = asked; optimistic = is; none = h }
+  work_ends is Busy h = record { part = record { options = r; asked = asked; optimistic = is; committed = h.1 }; others = h.0 }
   work_ends is Closed h = h
   work_ends is Exhausted h = inr (inl (record { options = r; asked = asked; optimistic = is; committed = h }))
   work_ends is TurnsSpent h = record { options = r; asked = asked; optimistic = is; committed = h }
@@ -108,7 +108,7 @@ module _ (p : Program) (is : IsAskedByLine p) (words : List Text) where
     nothing_written Memory (inr (inr (inl b))) = absurd (not_refused b.options name b.asked refused)
     nothing_written Memory (inr (inr (inr b))) = absurd (replay_not_refused b.options name b.asked refused)
     nothing_written NotLawful h = absurd h
-    nothing_written Busy b = absurd (not_refused b.options name b.asked refused)
+    nothing_written Busy b = absurd (not_refused b.part.options name b.part.asked refused)
     nothing_written Closed h = absurd h
     nothing_written Exhausted (inl b) = absurd (not_refused b.options name b.asked refused)
     nothing_written Exhausted (inr (inl b)) = absurd (not_refused b.options name b.asked refused)
@@ -183,7 +183,7 @@ module _ (p : Program) (is : IsAskedByLine p) (words : List Text) (input : Optio
     bad_nothing_written Memory (inr (inr (inl b))) = absurd (no_run b.options b.asked)
     bad_nothing_written Memory (inr (inr (inr b))) = absurd (not_read b.options b.written.steps b.asked b.written.given)
     bad_nothing_written NotLawful h = absurd h
-    bad_nothing_written Busy b = absurd (no_run b.options b.asked)
+    bad_nothing_written Busy b = absurd (no_run b.part.options b.part.asked)
     bad_nothing_written Closed h = absurd h
     bad_nothing_written Exhausted (inl b) = absurd (no_run b.options b.asked)
     bad_nothing_written Exhausted (inr (inl b)) = absurd (no_run b.options b.asked)

@@ -1,5 +1,5 @@
 -- What a program does with the words of a command line and with what a reader gives, and what it may write to.
-use Rattle.std.specs.Prelude.{◌≡◌, ◌⊎◌, ℕ, List, Option, Some, None, Err, codes}
+use Rattle.std.specs.Prelude.{◌≡◌, ◌<◌, ◌⊎◌, ℕ, List, Option, Some, None, Err, codes}
 use Rattle.std.specs.Io.KnownBytes.{Appends, Keeps}
 use Rattle.clap.specs.Words.{App, Text}
 use Rattle.vt_key.specs.Times.{Time}
@@ -12,7 +12,7 @@ use Rattle.vt_options.specs.declared.choices.Synch.TheVariants.{Sequential, Opti
 use Rattle.vt_options.specs.Line.{given_by}
 use Rattle.vt_options.specs.Settings.{GiveConfig}
 use Rattle.vt_options.specs.Requests.{Line, AreBy, AskHelpOf, IsRefusedAsOf}
-use Rattle.vt_tasks.specs.Runs.{WritesBelow, WritesNone, WritesBeginning}
+use Rattle.vt_tasks.specs.Runs.{WritesBelow, WritesBeginning}
 use Rattle.vt_step_text.specs.declared.reading.NumberedStep.{NumberedStep}
 use Rattle.vt_step_text.specs.StepText.{steps_of}
 use Rattle.vt_tasks.specs.Replays.{ReplaysBy, BeginsReplayBy, WritesRepliesBy, StopsUnopenedBy, StopsAtBadLineBy}
@@ -107,12 +107,10 @@ module _ (p : Program) (words : List Text) where
     pub optimistic : p.synch_of options ≡ Optimistic
     pub committed : WritesBelow (p.text_below options) (p.text_of options) old new
 
-  -- the words ask for a run in threads, of more than one worker, and its text without records was written
+  -- the same of a run of more than one worker
   pub record StopsUnread (old new : Option (List ℕ)) : Type 0 where
-    pub options : p.Run
-    pub asked : p.AskRun words options
-    pub optimistic : p.synch_of options ≡ Optimistic
-    pub none : WritesNone (p.workers_of options) (p.text_below options) old new
+    pub part : StopsPartWay old new
+    pub others : 1 < p.workers_of part.options
 
   -- the words ask for a replay, whose world can't be made, and nothing was written
   pub record StopsReplayEarly (remaining old new : Option (List ℕ)) : Type 0 where

@@ -1,7 +1,7 @@
 -- The text of a run, and how much of it a run writes that is refused.
 use Rattle.std.specs.Prelude.{◌≡◌, ◌<◌, ℕ, List, ◌++◌, Option}
 use Rattle.std.specs.Io.KnownBytes.{Appends}
-use Rattle.vt_key.specs.Times.{Time, opening_time}
+use Rattle.vt_key.specs.Times.{Time}
 use Rattle.vt_key.specs.declared.fault.Fault.{Fault}
 use Rattle.vt_key.specs.declared.fault.Fault.TheVariants.{Memory, Busy, Exhausted, TurnsSpent, Output}
 use Rattle.vt_model.specs.declared.settings.Config.{Config}
@@ -36,11 +36,6 @@ pub record WritesBelow (below : Time → List ℕ) (whole : List ℕ) (old new :
   pub rest : List ℕ
   pub begins : whole ≡ below time ++ rest
 
--- the text without records was written: what comes before the opening. Another worker's place had claimed the book
-pub record WritesNone (workers : ℕ) (below : Time → List ℕ) (old new : Option (List ℕ)) : Type 0 where
-  pub others : 1 < workers
-  pub written : Appends old new (below opening_time)
-
 -- a beginning of the text was written, which may be nothing or all
 pub record WritesBeginning (whole : List ℕ) (old new : Option (List ℕ)) : Type 0 where
   pub beginning : List ℕ
@@ -56,11 +51,11 @@ StopsRun Passes old new text Exhausted = Passes × WritesBeginning text old new
 StopsRun Passes old new text Output = AppendsBeginning old new text
 StopsRun Passes old new text _ = ⊥
 
--- what a run in threads, of so many workers, that was refused wrote of its text: what comes before some time, or no record where the
--- book was claimed, or where the writer failed a beginning
+-- what a run in threads, of so many workers, that was refused wrote of its text: what comes before some time, or where the writer
+-- failed a beginning. It is busy only where there is another worker, whose place had claimed the book
 abbrev pub StopsWork : ℕ → (Time → List ℕ) → List ℕ → Option (List ℕ) → Option (List ℕ) → Fault → Type 0
 StopsWork workers below whole old new Memory = WritesBelow below whole old new
-StopsWork workers below whole old new Busy = WritesNone workers below old new
+StopsWork workers below whole old new Busy = (1 < workers) × WritesBelow below whole old new
 StopsWork workers below whole old new Exhausted = WritesBelow below whole old new
 StopsWork workers below whole old new TurnsSpent = WritesBelow below whole old new
 StopsWork workers below whole old new Output = AppendsBeginning old new whole

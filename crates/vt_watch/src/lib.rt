@@ -12,16 +12,13 @@ pub struct Progress {
     pub undone: u64,
 }
 
-/// What watches a run. Each call is made in a thread of the run, which waits until it returns: a test may hold a worker there.
+/// What watches a run. Each call is made in a thread of the run, which waits until it returns.
 ///
 /// No call can change a record of the run. None has to do anything.
 pub trait Watch {
     /// Called before a run begins: `end` is the tick at which it ends, and `workers` how many workers it has. None: it is a run in one
     /// thread.
     fn begin(&self, _end: u64, _workers: Option<u32>) {}
-
-    /// Called when worker `worker` is about to execute an event in its turn `turn`, counted from 1.
-    fn before_execute(&self, _worker: u32, _turn: u64) {}
 
     /// Called when worker `worker` has handed in what it committed, and at the end of its work. A run in one thread calls it
     /// now and then, as worker 0.

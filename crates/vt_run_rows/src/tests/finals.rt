@@ -9,7 +9,7 @@ use std::sync::Wait;
 use std::thread::Threads;
 use vt_key::Fault;
 use vt_model::Config;
-use vt_station::{Finished, Stopped, Unwatched, run_workers_to_finals};
+use vt_station::{Finished, Open, Stopped, Unwatched, run_workers_to_finals};
 
 // The run with two hops on so many workers, each of so many turns.
 fn finals<R: Abort + AllocGlobal + Threads + Wait + Sync>(
@@ -18,7 +18,8 @@ fn finals<R: Abort + AllocGlobal + Threads + Wait + Sync>(
     turns: u64,
 ) -> Result<Finished, Stopped> {
     let config = Config::new(2, workers, 10, 0).expect(rt, "config");
-    run_workers_to_finals(rt, rt.alloc(), config, &two_hops(rt), &Unwatched, turns)
+    let model = two_hops(rt);
+    run_workers_to_finals(rt, rt.alloc(), config, &model, &Open, &Unwatched, turns)
 }
 
 fn is_whole(finished: &Finished) -> bool {

@@ -7,7 +7,7 @@ use std::sync::Wait;
 use std::thread::Threads;
 use vt_model::{Config, Model as EventModel, Record};
 use vt_models::Hop;
-use vt_station::{Watch, run_workers};
+use vt_station::{Gate, Stopped, run_workers};
 
 /// As many turns as the program grants a worker.
 pub const TURNS: u64 = 10_000_000;
@@ -39,21 +39,26 @@ pub fn all_records() -> [Record; 6] {
     ]
 }
 
-/// The run goes to its end and has these records.
-pub fn gives<R: Abort + AllocGlobal + Threads + Wait + Sync, M: EventModel + Sync, W: Watch + Sync>(
+/// Whether a run went to its end and has these records.
+pub fn has_given(run: &Result<Vec<Record>, Stopped>, want: &[Record]) -> bool {
+    match run {
+        Ok(records) => records.as_slice() == want,
+        Err(_) => false,
+    }
+}
+
+/// The run through a gate goes to its end and has these records.
+pub fn gives<R: Abort + AllocGlobal + Threads + Wait + Sync, M: EventModel + Sync, G: Gate + Sync>(
     rt: &R,
     model: &M,
     config: Config,
-    watch: &W,
+    gate: &G,
     want: &[Record],
 )
 where
     M::State: Send,
     M::Kept: Send,
 {
-    let is_given = match run_workers(rt, rt.alloc(), config, model, watch, TURNS) {
-        Ok(records) => records.as_slice() == want,
-        Err(_) => false,
-    };
-    holds(rt, is_given, "the records of the run");
+    let run = run_workers(rt, rt.alloc(), config, model, gate, TURNS);
+    holds(rt, has_given(&run, want), "the records of the run");
 }

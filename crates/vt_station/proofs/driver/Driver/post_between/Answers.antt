@@ -1,8 +1,8 @@
 use Rattle.vt_places.proofs.WorkLemmas.{kernel-ready, called-at-work}
-use Rattle.vt_station.proofs.driver.Driver.post_all.Goals as goal
+use Rattle.vt_station.proofs.driver.Driver.post_between.Goals as goal
 
 pub post-answer-requires-clause-kernel : goal.post-answer-requires-clause-kernel
-post-answer-requires-clause-kernel g c κs within = kernel-ready c.self-in-loop.invariant
+post-answer-requires-clause-kernel g c κs within = kernel-ready c.self.invariant
 
 pub invariant_of-self : goal.invariant_of-self
-invariant_of-self g c = called-at-work c.self-in-loop.invariant c.post-answer.ensures.same.0 c.post-answer.ensures.ready
+invariant_of-self g c = called-at-work c.self.invariant c.post-answer.ensures.same.0 c.post-answer.ensures.ready

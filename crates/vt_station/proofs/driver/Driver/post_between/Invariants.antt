@@ -1,5 +1,5 @@
 use Rattle.vt_places.specs.AtWork.{IsAtSameStation}
-use Rattle.vt_station.proofs.driver.Driver.post_all.Given as goal
+use Rattle.vt_station.proofs.driver.Driver.post_between.Given as goal
 
 abbrev pub invariant-loop : goal.invariant-loop
 invariant-loop g l = IsAtSameStation l.initial.self l.self

@@ -11,7 +11,7 @@ use Rattle.vt_station.specs.declared.job.Job.TheInside.{Inside}
 use Rattle.vt_station.specs.Crew.{IsJob, StandsThere, IsLeftBy, view_of}
 use Rattle.vt_station.specs.declared.driver.Outcome.TheVariants.{Refused}
 use Rattle.vt_station.specs.Turns.{HasEnded}
-use Rattle.vt_station.proofs.JobLemmas.{stands-taken, stands-from, view-from, stands-on, same-job}
+use Rattle.vt_station.proofs.JobLemmas.{stands-taken, stands-from, not-begun, view-from, stands-on, same-job}
 use Rattle.vt_station.proofs.job.Job.work.Given.{Over}
 use Rattle.vt_station.proofs.job.Job.work.Goals.{in-Some+in-New-1, in-Some+in-Begun-1, in-Some+in-Left-1, in-None-8, in-Some-fault, in_default-fault, in-Some+in-New-2, in-Some+in-Begun-2, in-Some+in-Left-2, in-None-9}
 use Rattle.vt_station.proofs.job.Job.work.Goals as goal
@@ -55,7 +55,7 @@ invariant_of-self-after-fault-4 g c =
     let there = subst (λ p. StandsThere sim i.model.now i.config (station_table i.station.now) i.worker p × IsLeftBy (view_of p) i.outcome) (sym refused.0) here in
     elim c.match-fault.branch [
       | in-Some-fault w ↦
-          let memory = subst (λ o. IfSome o (λ f. f ≡ Memory)) w.in-Some-fault.is refused.1 in
+          let memory = subst (λ o. IfSome o (λ f. f ≡ Memory)) w.in-Some-fault.is (not-begun c.in-Some.post c.in-Err.fault refused.1) in
           subst (HoldsAt g post) (sym w.self-inside-is) (stands-on before post {ended = Some (Refused w.in-Some-fault.fault)} there.0 (inl memory))
       | in_default-fault w ↦ subst (HoldsAt g post) (sym w.self-inside-is) (stands-on before post there.0 there.1)
     ]

@@ -1,6 +1,6 @@
-use Rattle.std.proofs.Common.{◌<◌, length, sym, ◌∙◌, ap, subst}
+use Rattle.std.proofs.Common.{◌<◌, List, length, sym, ◌∙◌, ap, subst}
 use Rattle.vt_station.specs.declared.pieces.Crew.TheInside.{Inside}
-use Rattle.vt_station.specs.Crew.{AllAt, NoneClosed, IsCrew}
+use Rattle.vt_station.specs.Crew.{AtJob, AllAt, StandsBy, IsCrew}
 use Rattle.vt_station.proofs.CrewLemmas.{whole-again}
 use Rattle.vt_station.proofs.pieces.Crew.work.Given.{Over}
 use Rattle.vt_station.proofs.pieces.Crew.work.Goals.{in-GoesOn, in_default}
@@ -24,8 +24,7 @@ invariant_of-self g c =
           subst (Holds g) (sym w.self-inside-is) (record {
             told = subst (AllAt i.model.now i.config) (sym again) told;
             some = subst (λ n. 0 < n) (sym (ap length again ∙ count)) inv.some;
-            whole = λ is none. w.standing_of-self-inside.ensures.whole is (subst NoneClosed (sym w.as_slice.ensures.value) none);
-            stops = w.standing_of-self-inside.ensures.told;
+            stands = subst (λ (jobs : List (AtJob g.row.M.Denot)). StandsBy jobs w.standing_of-self-inside.result) w.as_slice.ensures.value w.standing_of-self-inside.ensures;
           })
       | in_default w ↦ subst (Holds g) (sym w.self-inside-is) inv
     ]

@@ -1,0 +1,72 @@
+-- How many workers a run has makes no difference to its text.
+use Rattle.std.proofs.Common.{◌≡◌, ◌∙◌, ◌++◌, ◌≤◌, ℕ, zero, suc, List, [], ◌∷◌, Option, refl, ap, subst, arith}
+use Rattle.vt_key.specs.Times.{Time, at}
+use Rattle.vt_key.specs.declared.fault.Fault.{Fault}
+use Rattle.vt_key.specs.declared.fault.Fault.TheVariants.{Memory, NotLawful, Busy, Closed, Exhausted, TurnsSpent, BadOption, BadStep, Output}
+use Rattle.vt_model.specs.declared.rows.Row.{Row}
+use Rattle.vt_model.specs.declared.sending.Sent.{Sent}
+use Rattle.vt_model.specs.declared.settings.Config.{Config}
+use Rattle.vt_model.specs.Handler.{Handlers}
+use Rattle.vt_model.specs.Simulation.{Simulation, simulation_of, start_of, fire_of, words_at}
+use Rattle.vt_model.specs.Sequential.{RunState, fired_after, opening, step, after_steps, weight, whole_run, rows_after, rows_before, records_of, seq_records}
+use Rattle.vt_text.specs.declared.version.Version.{Version}
+use Rattle.vt_text.specs.Records.{records_text}
+use Rattle.vt_tasks.specs.Runs.{text_below, run_text, StopsWork}
+
+module _ {S P : Type 0} (sim : Simulation S P) (w : ℕ) where
+  abbrev other : Simulation S P
+  other = record sim { workers = w }
+
+  step-same : (x : RunState P) → step other x ≡ step sim x
+  unfolding fired_after
+  step-same x = refl
+
+  steps-same : (n : ℕ) → after_steps other n ≡ after_steps sim n
+  steps-same zero = refl
+  steps-same (suc n) = step-same (after_steps other n) ∙ ap (step sim) (steps-same n)
+
+  whole-same : whole_run other ≡ whole_run sim
+  unfolding whole_run weight
+  whole-same = ap (λ x. x.executed) (steps-same (weight sim (opening sim).pending))
+
+  rows-same : (done es : List (Sent P)) → rows_after other done es ≡ rows_after sim done es
+  unfolding fired_after
+  rows-same done [] = refl
+  rows-same done (e ∷ es) = ap (λ (rows : List Row). (fired_after sim done e).rows ++ rows) (rows-same (done ++ e ∷ []) es)
+
+  records-same : (t : Time) → seq_records other t ≡ seq_records sim t
+  records-same t = ap (λ (rows : List Row). records_of (rows_before t rows)) (rows-same [] (whole_run other) ∙ ap (rows_after sim []) whole-same)
+
+module _ (version : Version) {S P K : Type 0} (handlers : Handlers S P K) (c d : Config) (lps : d.lps ≡ c.lps) (end : d.end ≡ c.end) (seed : d.seed ≡ c.seed) where
+  but-workers : simulation_of handlers d ≡ record (simulation_of handlers c) { workers = d.workers }
+  but-workers = λ i. record {
+    lps = lps i;
+    workers = d.workers;
+    end = at (end i) 0;
+    start = λ p. start_of (at (end i) 0) p (handlers.start (lps i) p (words_at (seed i) p 0));
+    fire = λ p t e. fire_of (at (end i) 0) p t e (handlers.forward (lps i) p e.key.time e.payload t.state (words_at (seed i) p t.place));
+    finish = handlers.finish;
+  }
+
+  below-same : (t : Time) → text_below version handlers d t ≡ text_below version handlers c t
+  below-same t = ap (λ (s : Simulation S P). records_text version (seq_records s t)) but-workers ∙ ap (records_text version) (records-same (simulation_of handlers c) d.workers t)
+
+  pub text-same : run_text version handlers d ≡ run_text version handlers c
+  text-same = ap (λ n. text_below version handlers d (at n 0)) end ∙ below-same (at c.end 0)
+
+  fewer-stop : (below : Time → List ℕ) (whole : List ℕ) (old new : Option (List ℕ)) → d.workers ≤ c.workers → (fault : Fault) → StopsWork d.workers below whole old new fault → StopsWork c.workers below whole old new fault
+  fewer-stop below whole old new fewer Memory h = h
+  fewer-stop below whole old new fewer NotLawful h = h
+  fewer-stop below whole old new fewer Busy h = (omega (arith, h.0, fewer), h.1)
+  fewer-stop below whole old new fewer Closed h = h
+  fewer-stop below whole old new fewer Exhausted h = h
+  fewer-stop below whole old new fewer TurnsSpent h = h
+  fewer-stop below whole old new fewer (BadOption name) h = h
+  fewer-stop below whole old new fewer (BadStep line) h = h
+  fewer-stop below whole old new fewer Output h = h
+
+  -- and so with fewer workers it stops as with more
+  pub stops-same : (old new : Option (List ℕ)) → d.workers ≤ c.workers → (fault : Fault) → StopsWork d.workers (text_below version handlers d) (run_text version handlers d) old new fault
+      → StopsWork c.workers (text_below version handlers c) (run_text version handlers c) old new fault
+  stops-same old new fewer fault h =
+      subst (λ (texts : (Time → List ℕ) × List ℕ). StopsWork c.workers texts.0 texts.1 old new fault) (λ i. ((λ t. below-same t i), text-same i)) (fewer-stop (text_below version handlers d) (run_text version handlers d) old new fewer fault h)

@@ -1,0 +1,28 @@
+use Rattle.std.proofs.Common.{◌∙◌, ℕ, List, ap, subst, OnOk}
+use Rattle.std.proofs.lemmas.Result.{IfErr-weaker}
+use Rattle.std.specs.Io.KnownBytes.{Appends}
+use Rattle.vt_tasks.specs.Runs.{text_below, run_text, StopsWork}
+use Rattle.vt_runner.proofs.WorkerLemmas.{text-same, stops-same}
+use Rattle.vt_runner.proofs.simulation.print_optimistic.Goals as goal
+
+pub returns-clause-ok : goal.returns-clause-ok
+returns-clause-ok g c =
+    let H = g.M.Model.handlers c.args.model.now in
+    let o = c.args.options.now in
+    let s = c.with_own_processes-settings in
+    let d = s.result.config in
+    let run = s.ensures.run in
+    subst (λ (l : List ℕ). OnOk c.print_work.result (Appends (g.O.Write.contents c.args.out.now) (g.O.Write.contents c.print_work.new.out) l))
+    (ap (λ v. run_text v H d) run.0 ∙ text-same o.text H o.config d run.1 run.2 run.3) c.print_work.ensures.ok
+
+pub returns-clause-err : goal.returns-clause-err
+returns-clause-err g c =
+    let H = g.M.Model.handlers c.args.model.now in
+    let o = c.args.options.now in
+    let s = c.with_own_processes-settings in
+    let d = s.result.config in
+    let run = s.ensures.run in
+    let old = g.O.Write.contents c.args.out.now in
+    let new = g.O.Write.contents c.print_work.new.out in
+    IfErr-weaker c.print_work.result _ _
+    (λ fault h. stops-same o.text H o.config d run.1 run.2 run.3 old new s.ensures.fewer fault (subst (λ v. StopsWork d.workers (text_below v H d) (run_text v H d) old new fault) run.0 h)) c.print_work.ensures.err
