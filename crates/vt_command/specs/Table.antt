@@ -1,5 +1,5 @@
 -- The table of the models and their options: what each may be, and what it is where it isn't given.
-use Rattle.std.specs.Prelude.{List, [], ◌∷◌, Some, codes}
+use Rattle.std.specs.Prelude.{List, [], ◌∷◌, Some, false, codes}
 use Rattle.vt_models.specs.declared.hop.TheConstants.{MAX_HOPS, MAX_STRIDE, MAX_DELAY, MAX_RISE}
 use Rattle.vt_models.specs.declared.phold.TheConstants.{MAX_POPULATION, MAX_REMOTE, MAX_LOOKAHEAD, MAX_SPAN}
 use Rattle.vt_models.specs.declared.stations.TheConstants.{MAX_JOBS, MAX_SERVICE, MAX_TRAVEL}
@@ -55,4 +55,5 @@ abbrev pub twarp_models : Models
 twarp_models = record {
   naming = Some (record { option = codes "model"; names = codes "hop" ∷ codes "phold" ∷ codes "stations" ∷ [] });
   tables = hop_table ∷ phold_table ∷ stations_table ∷ [];
+  programs = false;
 }

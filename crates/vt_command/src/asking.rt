@@ -17,7 +17,7 @@ use vt_options::Request;
 /// [`Fault::BadOption`] with an option's name: this is the first bad option in the order of the table.
 /// [`Fault::BadOption`] with `command-line`: the words have no meaning. A word is unknown, an option has no value or
 /// is given twice, or the subcommand is missing or unknown. [`Fault::Memory`]: memory was refused.
-pub fn read_request<S: AsStr>(alloc: Global, words: &[S]) -> Result<Request, Fault>
+pub fn read_request<'a, S: AsStr>(alloc: Global, words: &'a [S]) -> Result<Request<'a>, Fault>
     ensures ok { IfOk result (IsAsked (codes "twarp") twarp_models (map S.text words.now)) }
     ensures err { IfErr result (IsRefusedBy (map S.text words.now)) }
 {

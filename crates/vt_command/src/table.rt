@@ -142,6 +142,7 @@ pub(crate) static MODELS: ModelTable<'static> = ModelTable {
             ],
         },
     ],
+    programs: false,
 };
 
 /// What the help of `twarp` shows of it.

@@ -3,3 +3,4 @@ pub mod RequestLemmas
 pub mod OwnLemmas
 pub mod ModelLemmas
 pub mod TakenLemmas
+pub mod ProgramLemmas

@@ -11,10 +11,11 @@ use Rattle.vt_model.specs.Settings.{is_between}
 use Rattle.vt_options.specs.declared.choices.RunSettings.{RunSettings}
 use Rattle.vt_options.specs.declared.choices.ReplaySettings.{ReplaySettings}
 use Rattle.vt_options.specs.declared.own.OwnOption.{OwnOption}
-use Rattle.vt_options.specs.Line.{given_by}
-use Rattle.vt_options.specs.Requests.{Line, AreBy, IsRefusedByOf}
+use Rattle.vt_options.specs.declared.programs.ProgramChoice.{ProgramChoice}
+use Rattle.vt_options.specs.Line.{given_by, texts_by}
+use Rattle.vt_options.specs.Requests.{AreBy, IsRefusedByOf}
 use Rattle.vt_options.specs.Table.{Given, NumberOption, bad, bad_number, first_name, first_bad_of, value_in}
-use Rattle.vt_options.specs.Own.{AreInRange, AreWithin, GiveRun, GiveReplay, GiveValues, Models, NamesBad, number_option, number_table}
+use Rattle.vt_options.specs.Own.{AreInRange, AreWithin, GiveRun, GiveReplay, GiveValues, Models, NamesBad, app_for, first_bad_of_run, first_bad_of_replay, line_for, number_option, number_table}
 use Rattle.vt_options.proofs.RequestLemmas as requests
 
 -- each element passes a test that all pass
@@ -82,24 +83,35 @@ module _ (given : Given) where
 
 -- ---- what the words of a run or a replay give
 
--- settings, a model and values that texts give are given by texts that are the same
-pub run_given : (models : Models) (given found : Given) (s : RunSettings) (k : ℕ) (values : List ℕ) → ((name : Text) → found name ≡ given name) → GiveRun models found s k values → GiveRun models given s k values
-run_given models given found s k values e = subst (λ (g : Given). GiveRun models g s k values) (λ i name. e name i)
+module _ (name : Text) (models : Models) (words : List Text) (found : Given) (texts : List Text) (e : (option : Text) → found option ≡ given_by (app_for name models) words option) (t : texts ≡ texts_by (app_for name models) words (codes "set")) where
+  -- what holds of the texts that matches give holds of those that the words give
+  by_words : (Holds : Given → List Text → Type 0) → Holds found texts → Holds (given_by (app_for name models) words) (texts_by (app_for name models) words (codes "set"))
+  by_words Holds h = subst (Holds (given_by (app_for name models) words)) t (subst (λ (g : Given). Holds g texts) (λ i option. e option i) h)
 
-pub replay_given : (models : Models) (given found : Given) (s : ReplaySettings) (k : ℕ) (values : List ℕ) → ((name : Text) → found name ≡ given name) → GiveReplay models found s k values → GiveReplay models given s k values
-replay_given models given found s k values e = subst (λ (g : Given). GiveReplay models g s k values) (λ i name. e name i)
+  -- settings and a choice that they give
+  pub run_given : (s : RunSettings) (k : ℕ) (values : List ℕ) (p : Option ProgramChoice) → GiveRun models found texts s k values p → GiveRun models (given_by (app_for name models) words) (texts_by (app_for name models) words (codes "set")) s k values p
+  run_given s k values p = by_words (λ g l. GiveRun models g l s k values p)
 
--- a refusal for memory refuses any words
-by_memory : (line : Line) (words : List Text) (fault : Fault) → fault ≡ Memory → IsRefusedByOf line words fault
-by_memory line words fault is = subst (IsRefusedByOf line words) (sym is) tt
+  pub replay_given : (s : ReplaySettings) (k : ℕ) (values : List ℕ) (p : Option ProgramChoice) → GiveReplay models found texts s k values p → GiveReplay models (given_by (app_for name models) words) (texts_by (app_for name models) words (codes "set")) s k values p
+  replay_given s k values p = by_words (λ g l. GiveReplay models g l s k values p)
 
-module _ (line : Line) (words : List Text) (found : Given) (e : (name : Text) → found name ≡ given_by line.app words name) (fault : Fault) where
-  -- words of a run that were refused
-  pub run_refused : AreBy line.app (codes "run") words → NamesBad (line.bad_of_run found) fault → IsRefusedByOf line words fault
-  run_refused are (inl memory) = by_memory line words fault memory
-  run_refused are (inr h) = requests.refused line words found e fault h.0 are h.1
+  module _ (fault : Fault) where
+    -- a refusal for memory refuses any words
+    by_memory : fault ≡ Memory → IsRefusedByOf (line_for name models) words fault
+    by_memory is = subst (IsRefusedByOf (line_for name models) words) (sym is) tt
 
-  -- and of a replay
-  pub replay_refused : AreBy line.app (codes "replay") words → NamesBad (line.bad_of_replay found) fault → IsRefusedByOf line words fault
-  replay_refused are (inl memory) = by_memory line words fault memory
-  replay_refused are (inr h) = requests.replay_refused line words found e fault h.0 are h.1
+    run_named : AreBy (app_for name models) (codes "run") words → NamesBad ((line_for name models).bad_of_run words) fault → IsRefusedByOf (line_for name models) words fault
+    run_named are (inl memory) = by_memory memory
+    run_named are (inr h) = requests.refused (line_for name models) words fault h.0 are h.1
+
+    replay_named : AreBy (app_for name models) (codes "replay") words → NamesBad ((line_for name models).bad_of_replay words) fault → IsRefusedByOf (line_for name models) words fault
+    replay_named are (inl memory) = by_memory memory
+    replay_named are (inr h) = requests.replay_refused (line_for name models) words fault h.0 are h.1
+
+    -- words of a run that were refused
+    pub run_refused : AreBy (app_for name models) (codes "run") words → NamesBad (first_bad_of_run models found texts) fault → IsRefusedByOf (line_for name models) words fault
+    run_refused are h = run_named are (by_words (λ g l. NamesBad (first_bad_of_run models g l) fault) h)
+
+    -- and of a replay
+    pub replay_refused : AreBy (app_for name models) (codes "replay") words → NamesBad (first_bad_of_replay models found texts) fault → IsRefusedByOf (line_for name models) words fault
+    replay_refused are h = replay_named are (by_words (λ g l. NamesBad (first_bad_of_replay models g l) fault) h)

@@ -1,16 +1,15 @@
 -- What the matches of a subcommand give.
-use Rattle.std.proofs.Common.{◌≡◌, ◌∙◌, ap, sym, refl, List, Option, Some, None, option_map, inl, inr, arith}
-use Rattle.std.specs.Prelude.{option_and_then, codes}
+use Rattle.std.proofs.Common.{◌≡◌, ◌∙◌, ap, sym, refl, List, [], Option, Some, None, option_map, inl, inr, arith}
+use Rattle.std.specs.Prelude.{option_and_then, unwrap_or, codes}
 use Rattle.std.specs.Box.{box_value}
-use Rattle.clap.specs.Words.{App, Row, Text, found_of, first_of, first_value, rows_of, subcommand_of, subcommand_name_of, subcommand_rows, subcommand_rows_of}
+use Rattle.clap.specs.Words.{App, Row, Text, all_of, found_of, first_of, first_value, rows_of, subcommand_of, subcommand_name_of, subcommand_rows, subcommand_rows_of}
 use Rattle.clap.specs.declared.parser.matches.ArgMatches.{ArgMatches}
 use Rattle.clap.specs.declared.parser.matches.ArgMatches.TheViews.{out-ArgMatches, out-SubCommand}
-use Rattle.clap.proofs.WalkLemmas.{first_value-rows}
+use Rattle.clap.proofs.WalkLemmas.{first_value-rows, raw_values-rows}
 use Rattle.vt_key.specs.declared.fault.Fault.{Fault}
 use Rattle.vt_key.specs.declared.fault.Fault.TheVariants.{Memory, NotLawful, Busy, Closed, Exhausted, TurnsSpent, BadOption, BadStep, Output}
 use Rattle.vt_key.specs.Faults.{fault_number, option_named}
-use Rattle.vt_options.specs.Line.{given_by, subcommand_by}
-use Rattle.vt_options.specs.Table.{Given}
+use Rattle.vt_options.specs.Line.{given_by, subcommand_by, texts_by, texts_in}
 use Rattle.vt_options.specs.Requests.{AreBy, HasBadOptionOf, IsParserRefusal, IsRefusedByOf, Line}
 
 -- the name that a parse met is that of its rows
@@ -28,6 +27,17 @@ given_is app words m inner walked rows name =
     first_value-rows (found_of inner) name ∙ rows_there (subcommand_rows_of m) (rows_of (found_of inner)) name rows
     ∙ ap (option_and_then (λ (p : Text × List Row). first_of name p.1)) walked
 
+-- all values of the one that is there
+all_there : (s : Option (Text × List Row)) (rows : List Row) (name : Text) → Some rows ≡ option_map (λ p. p.1) s → all_of name rows ≡ option_and_then (λ p. all_of name p.1) s
+all_there None rows name e = cc
+all_there (Some p) rows name e = let same : rows ≡ p.1 = cc in ap (all_of name) same
+
+-- all texts that the subcommand's own matches give are those that the words give
+pub texts_are : (app : App) (words : List Text) (m inner : ArgMatches) → subcommand_rows_of m ≡ subcommand_of app words → Some (rows_of (found_of inner)) ≡ option_map (λ p. p.1) (subcommand_rows_of m) → (name : Text) → texts_in inner name ≡ texts_by app words name
+texts_are app words m inner walked rows name =
+    ap (λ (o : Option (List Text)). unwrap_or o []) (raw_values-rows (found_of inner) name ∙ all_there (subcommand_rows_of m) (rows_of (found_of inner)) name rows
+    ∙ ap (option_and_then (λ (p : Text × List Row). all_of name p.1)) walked)
+
 -- the subcommand that a parse met, if it met one, is the one that the words name
 pub met : (app : App) (words : List Text) (m : ArgMatches) (found : Option Text) → subcommand_rows_of m ≡ subcommand_of app words → found ≡ subcommand_name_of m → subcommand_by app words ≡ found
 met app words m found walked e = ap (option_map (λ (s : Text × List Row). s.0)) (sym walked) ∙ name_of_rows m ∙ sym e
@@ -44,14 +54,12 @@ refused_by_name line words (BadOption name) bad is n f = inr (is name.now (sym f
 refused_by_name line words (BadStep k) bad is n f = absurd (omega arith)
 refused_by_name line words Output bad is n f = absurd (omega arith)
 
-module _ (line : Line) (words : List Text) (found : Given) (e : (name : Text) → found name ≡ given_by line.app words name) (fault : Fault) (n : fault_number fault ≡ 7) where
-  pub refused : AreBy line.app (codes "run") words → option_named fault ≡ line.bad_of_run found → IsRefusedByOf line words fault
-  refused run f =
-      refused_by_name line words fault (line.bad_of_run found) (λ name b. inl (record { are = run; bad = ap line.bad_of_run (λ i name. sym (e name) i) ∙ b })) n f
+module _ (line : Line) (words : List Text) (fault : Fault) (n : fault_number fault ≡ 7) where
+  pub refused : AreBy line.app (codes "run") words → option_named fault ≡ line.bad_of_run words → IsRefusedByOf line words fault
+  refused run f = refused_by_name line words fault (line.bad_of_run words) (λ name b. inl (record { are = run; bad = b })) n f
 
-  pub replay_refused : AreBy line.app (codes "replay") words → option_named fault ≡ line.bad_of_replay found → IsRefusedByOf line words fault
-  replay_refused replay f =
-      refused_by_name line words fault (line.bad_of_replay found) (λ name b. inr (record { are = replay; bad = ap line.bad_of_replay (λ i name. sym (e name) i) ∙ b })) n f
+  pub replay_refused : AreBy line.app (codes "replay") words → option_named fault ≡ line.bad_of_replay words → IsRefusedByOf line words fault
+  replay_refused replay f = refused_by_name line words fault (line.bad_of_replay words) (λ name b. inr (record { are = replay; bad = b })) n f
 
 -- what the parser's error refuses, the program refuses
 pub refused_by_parser : (line : Line) (words : List Text) (fault : Fault) → IsParserRefusal line.app words fault → IsRefusedByOf line words fault

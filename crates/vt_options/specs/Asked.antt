@@ -1,18 +1,19 @@
 -- A request is what the words ask for.
-use Rattle.std.specs.Prelude.{ℕ, List}
+use Rattle.std.specs.Prelude.{List}
 use Rattle.clap.specs.Words.{Text}
 use Rattle.vt_options.specs.declared.asking.Request.{Request}
 use Rattle.vt_options.specs.declared.asking.Request.TheVariants as request
 use Rattle.vt_options.specs.declared.choices.Task.{Task}
 use Rattle.vt_options.specs.declared.choices.Task.TheVariants.{Run, Replay}
+use Rattle.vt_options.specs.declared.own.Chosen.{Chosen}
 use Rattle.vt_options.specs.Requests.{AskHelpOf}
 use Rattle.vt_options.specs.Own.{Models, app_for, AskRunWith, AskReplayWith}
 
--- the words are those of this task, with this model and these values
-abbrev pub AskTaskWith : Text → Models → List Text → Task → ℕ → List ℕ → Type 0
-AskTaskWith name models words (Run settings) k vs = AskRunWith name models words settings k vs
-AskTaskWith name models words (Replay settings) k vs = AskReplayWith name models words settings k vs
+-- the words are those of this task, with this choice
+abbrev pub AskTaskWith : Text → Models → List Text → Task → Chosen → Type 0
+AskTaskWith name models words (Run settings) c = AskRunWith name models words settings c.model c.values.items c.program
+AskTaskWith name models words (Replay settings) c = AskReplayWith name models words settings c.model c.values.items c.program
 
 abbrev pub IsAsked : Text → Models → List Text → Request → Type 0
-IsAsked name models words (request.Task task chosen) = AskTaskWith name models words task chosen.model chosen.values.items
+IsAsked name models words (request.Task task chosen) = AskTaskWith name models words task chosen
 IsAsked name models words (request.Help text) = AskHelpOf (app_for name models) words

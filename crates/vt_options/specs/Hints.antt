@@ -1,7 +1,8 @@
 -- Lines for a terminal on a command line that is refused.
 use Rattle.std.specs.Prelude.{◌≡◌, ◌⊎◌, List, ◌++◌, Some, None, codes}
 use Rattle.clap.specs.Words.{Text}
-use Rattle.vt_options.specs.Line.{given_by, subcommand_by}
+use Rattle.vt_options.specs.Line.{given_by, subcommand_by, texts_by}
+use Rattle.vt_options.specs.Programs.{SetsNothing}
 use Rattle.vt_options.specs.Requests.{IsRefusedAsOf, IsUnreadableBy, Line}
 
 -- where to read what is allowed
@@ -20,11 +21,11 @@ parser_says program said = program ++ (codes ": " ++ (said ++ see_help program))
 abbrev pub option_takes : Text → Text → Text → Text → Text
 option_takes program name takes word = program ++ (codes ": --" ++ (name ++ (codes " takes " ++ (takes ++ (codes ", not '" ++ (word ++ codes "'"))))))
 
--- a line tells the option of this name, and the word that the words give it
+-- a line tells the option of this name, and the word that the words give it: of `set` one that sets nothing
 pub record TellsWord (program : Text) (line : Line) (words : List Text) (name text : Text) : Type 0 where
   pub takes : Text
   pub word : Text
-  pub given : given_by line.app words name ≡ Some word
+  pub given : (given_by line.app words name ≡ Some word) ⊎ ((name ≡ codes "set") × SetsNothing (texts_by line.app words (codes "set")) word)
   pub text_is : text ≡ option_takes program name takes word
 
 -- a line tells that there is no command

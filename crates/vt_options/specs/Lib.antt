@@ -1,8 +1,10 @@
 pub mod Line
 pub mod Table
 pub mod Settings
+pub mod Programs
 pub mod Requests
 pub mod Own
 pub mod Asked
+pub mod Tasks
 pub mod Taken
 pub mod Hints

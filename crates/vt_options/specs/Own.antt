@@ -1,5 +1,5 @@
 -- The options of models, as tables, and a command line with them.
-use Rattle.std.specs.Prelude.{◌≡◌, ◌⊎◌, ℕ, ◌+◌, Bool, true, List, [], ◌∷◌, ◌++◌, map, get_or, Option, Some, None, if◌then◌else◌, codes}
+use Rattle.std.specs.Prelude.{◌≡◌, ◌⊎◌, ℕ, ◌+◌, ◌&&◌, Bool, true, false, List, [], ◌∷◌, ◌++◌, map, get_or, Option, Some, None, if◌then◌else◌, is_some, codes}
 use Rattle.std.specs.List.{list_all, AllZip}
 use Rattle.std.specs.Str.{bytes_eq}
 use Rattle.clap.specs.Words.{App, Text}
@@ -10,11 +10,13 @@ use Rattle.vt_model.specs.Settings.{is_between}
 use Rattle.vt_options.specs.declared.own.OwnOption.{OwnOption}
 use Rattle.vt_options.specs.declared.own.ModelOptions.{ModelOptions}
 use Rattle.vt_options.specs.declared.own.ModelTable.{ModelTable}
+use Rattle.vt_options.specs.declared.programs.ProgramChoice.{ProgramChoice}
 use Rattle.vt_options.specs.declared.texts.OptionText.{OptionText}
 use Rattle.vt_options.specs.declared.choices.RunSettings.{RunSettings}
 use Rattle.vt_options.specs.declared.choices.ReplaySettings.{ReplaySettings}
-use Rattle.vt_options.specs.Line.{program_app, given_by}
+use Rattle.vt_options.specs.Line.{ValueOption, once, many_times, program_app, given_by, texts_by}
 use Rattle.vt_options.specs.Requests.{Line, AreBy}
+use Rattle.vt_options.specs.Programs.{GivesChoice, bad_sets, fuel}
 use Rattle.vt_options.specs.Settings.{GiveRunSettings, GiveReplaySettings}
 use Rattle.vt_options.specs.Table.{Given, NumberOption, option, value_in, synch_in, version_in, bad, bad_number, first_name, first_bad_of, config_table, turns, serial}
 
@@ -56,14 +58,16 @@ pub record Naming : Type 0 where
   pub option : Text
   pub names : List Text
 
--- the models of a program: the option that names one of them, if there is one, and the options of each
+-- the models of a program: the option that names one of them, if there is one, the options of each, and whether the file of a
+-- program may take their place
 pub record Models : Type 0 where
   pub naming : Option Naming
   pub tables : List (List NumberOption)
+  pub programs : Bool
 
 -- one model, which no option names
 abbrev pub only : List OwnOption → Models
-only own = record { naming = None; tables = number_table own ∷ [] }
+only own = record { naming = None; tables = number_table own ∷ []; programs = false }
 
 -- the models of a table
 abbrev pub naming_of : Option OptionText → List Text → Option Naming
@@ -77,7 +81,7 @@ abbrev pub tables_of : List ModelOptions → List (List NumberOption)
 tables_of models = map (λ m. number_table m.options.now) models
 
 abbrev pub models_of : ModelTable → Models
-models_of t = record { naming = naming_of t.naming (model_names t.models.now); tables = tables_of t.models.now }
+models_of t = record { naming = naming_of t.naming (model_names t.models.now); tables = tables_of t.models.now; programs = t.programs }
 
 -- each default of each model is in its range
 abbrev pub AllHaveDefaults : List ModelOptions → Type 0
@@ -108,6 +112,27 @@ abbrev pub first_bad_in : Given → List (List NumberOption) → Option Text
 first_bad_in given [] = None
 first_bad_in given (table ∷ tables) = first_name (first_bad_of given table ∷ first_bad_in given tables ∷ [])
 
+-- ---- a program in the place of a model
+
+-- the texts give a program, and name a model too
+abbrev pub names_both : Option Naming → Given → Bool
+names_both None given = false
+names_both (Some naming) given = is_some (given (codes "program")) && is_some (given naming.option)
+
+-- `program`, where a model is named too
+abbrev pub bad_program : Option Naming → Given → Option Text
+bad_program naming given = if names_both naming given then Some (codes "program") else None
+
+-- the first bad option of those of programs, where there are any. `texts` are those of `set`
+abbrev pub first_bad_of_program : Models → Given → List Text → Option Text
+first_bad_of_program models given texts =
+    if models.programs then first_name (bad_program models.naming given ∷ bad_sets texts ∷ bad_number given fuel ∷ []) else None
+
+-- the texts choose this program, or none
+abbrev pub GiveProgram : Models → Given → List Text → Option ProgramChoice → Type 0
+GiveProgram models given texts None = (models.programs ≡ false) ⊎ (given (codes "program") ≡ None)
+GiveProgram models given texts (Some p) = (models.programs ≡ true) × GivesChoice given texts p
+
 -- ---- the command line
 
 abbrev pub naming_names : Option Naming → List Text
@@ -118,43 +143,65 @@ abbrev pub table_names : List (List NumberOption) → List Text
 table_names [] = []
 table_names (table ∷ tables) = map (λ o. o.name) table ++ table_names tables
 
+-- the options of programs
+abbrev pub program_options : Bool → List ValueOption
+program_options programs = if programs then once (codes "program") ∷ many_times (codes "set") ∷ once (codes "data") ∷ once (codes "fuel") ∷ [] else []
+
 -- the options of `run`, in the order in which they are tested
-abbrev pub run_names : Models → List Text
-run_names models =
-    naming_names models.naming
-    ++ (codes "synch" ∷ codes "workers" ∷ codes "lps" ∷ codes "end" ∷ codes "seed" ∷ (table_names models.tables ++ (codes "turns" ∷ codes "text" ∷ [])))
+abbrev pub run_options : Models → List ValueOption
+run_options models =
+    map once (naming_names models.naming)
+    ++ (map once (codes "synch" ∷ codes "workers" ∷ codes "lps" ∷ codes "end" ∷ codes "seed" ∷ [])
+    ++ (map once (table_names models.tables)
+    ++ (map once (codes "turns" ∷ codes "text" ∷ []) ++ program_options models.programs)))
 
 -- the options of `replay`, in the order in which they are tested
+abbrev pub replay_options : Models → List ValueOption
+replay_options models =
+    map once (naming_names models.naming)
+    ++ (map once (codes "workers" ∷ codes "lps" ∷ codes "end" ∷ codes "seed" ∷ [])
+    ++ (map once (table_names models.tables)
+    ++ (map once (codes "serial" ∷ codes "text" ∷ []) ++ program_options models.programs)))
+
+-- their names
+abbrev pub run_names : Models → List Text
+run_names models = map (λ o. o.name) (run_options models)
+
 abbrev pub replay_names : Models → List Text
-replay_names models =
-    naming_names models.naming
-    ++ (codes "workers" ∷ codes "lps" ∷ codes "end" ∷ codes "seed" ∷ (table_names models.tables ++ (codes "serial" ∷ codes "text" ∷ [])))
+replay_names models = map (λ o. o.name) (replay_options models)
 
 abbrev pub app_for : Text → Models → App
-app_for name models = program_app name (run_names models) (replay_names models)
+app_for name models = program_app name (run_options models) (replay_options models)
 
--- the first option of `run` that has no value, in the order in which they are tested: it is the one that is named
-abbrev pub first_bad_of_run : Models → Given → Option Text
-first_bad_of_run models given = first_name (
+-- the first option of `run` that has no value, in the order in which they are tested: it is the one that is named. `texts` are
+-- those of `set`
+abbrev pub first_bad_of_run : Models → Given → List Text → Option Text
+first_bad_of_run models given texts = first_name (
     bad_naming models.naming given
     ∷ bad (codes "synch") (synch_in (given (codes "synch")))
     ∷ first_bad_of given config_table
     ∷ first_bad_in given models.tables
     ∷ bad_number given turns
-    ∷ bad (codes "text") (version_in (given (codes "text"))) ∷ [])
+    ∷ bad (codes "text") (version_in (given (codes "text")))
+    ∷ first_bad_of_program models given texts ∷ [])
 
 -- the first option of `replay` that has no value
-abbrev pub first_bad_of_replay : Models → Given → Option Text
-first_bad_of_replay models given = first_name (
+abbrev pub first_bad_of_replay : Models → Given → List Text → Option Text
+first_bad_of_replay models given texts = first_name (
     bad_naming models.naming given
     ∷ first_bad_of given config_table
     ∷ first_bad_in given models.tables
     ∷ bad_number given serial
-    ∷ bad (codes "text") (version_in (given (codes "text"))) ∷ [])
+    ∷ bad (codes "text") (version_in (given (codes "text")))
+    ∷ first_bad_of_program models given texts ∷ [])
 
 -- the command line of a program of these models: its parser, and which bad option is named
 abbrev pub line_for : Text → Models → Line
-line_for name models = record { app = app_for name models; bad_of_run = first_bad_of_run models; bad_of_replay = first_bad_of_replay models }
+line_for name models = record {
+  app = app_for name models;
+  bad_of_run = λ words. first_bad_of_run models (given_by (app_for name models) words) (texts_by (app_for name models) words (codes "set"));
+  bad_of_replay = λ words. first_bad_of_replay models (given_by (app_for name models) words) (texts_by (app_for name models) words (codes "set"));
+}
 
 -- that of a program of one model
 abbrev pub own_app : Text → List OwnOption → App
@@ -171,24 +218,27 @@ pub record GiveModel (models : Models) (given : Given) (k : ℕ) (vs : List ℕ)
   pub values : GiveValues given (get_or models.tables k []) vs
   pub within : AreInRange (get_or models.tables k []) vs
 
--- the settings of a run, the index of a model and values of its options that the texts give. The options of all models have values
-pub record GiveRun (models : Models) (given : Given) (s : RunSettings) (k : ℕ) (vs : List ℕ) : Type 0 where
+-- the settings of a run, the index of a model, values of its options and the program that the texts give. The options of all
+-- models have values
+pub record GiveRun (models : Models) (given : Given) (texts : List Text) (s : RunSettings) (k : ℕ) (vs : List ℕ) (p : Option ProgramChoice) : Type 0 where
   pub settings : GiveRunSettings given s
   pub model : GiveModel models given k vs
-  pub all_good : first_bad_of_run models given ≡ None
+  pub program : GiveProgram models given texts p
+  pub all_good : first_bad_of_run models given texts ≡ None
 
--- the settings of a replay, the index of a model and values of its options that the texts give
-pub record GiveReplay (models : Models) (given : Given) (s : ReplaySettings) (k : ℕ) (vs : List ℕ) : Type 0 where
+-- the settings of a replay, the index of a model, values of its options and the program that the texts give
+pub record GiveReplay (models : Models) (given : Given) (texts : List Text) (s : ReplaySettings) (k : ℕ) (vs : List ℕ) (p : Option ProgramChoice) : Type 0 where
   pub settings : GiveReplaySettings given s
   pub model : GiveModel models given k vs
-  pub all_good : first_bad_of_replay models given ≡ None
+  pub program : GiveProgram models given texts p
+  pub all_good : first_bad_of_replay models given texts ≡ None
 
--- the words are those of a run with these settings, model and values
-pub record AskRunWith (name : Text) (models : Models) (words : List Text) (s : RunSettings) (k : ℕ) (vs : List ℕ) : Type 0 where
+-- the words are those of a run with these settings, model, values and program
+pub record AskRunWith (name : Text) (models : Models) (words : List Text) (s : RunSettings) (k : ℕ) (vs : List ℕ) (p : Option ProgramChoice) : Type 0 where
   pub run : AreBy (app_for name models) (codes "run") words
-  pub options : GiveRun models (given_by (app_for name models) words) s k vs
+  pub options : GiveRun models (given_by (app_for name models) words) (texts_by (app_for name models) words (codes "set")) s k vs p
 
--- the words are those of a replay with these settings, model and values
-pub record AskReplayWith (name : Text) (models : Models) (words : List Text) (s : ReplaySettings) (k : ℕ) (vs : List ℕ) : Type 0 where
+-- the words are those of a replay with these settings, model, values and program
+pub record AskReplayWith (name : Text) (models : Models) (words : List Text) (s : ReplaySettings) (k : ℕ) (vs : List ℕ) (p : Option ProgramChoice) : Type 0 where
   pub replay : AreBy (app_for name models) (codes "replay") words
-  pub options : GiveReplay models (given_by (app_for name models) words) s k vs
+  pub options : GiveReplay models (given_by (app_for name models) words) (texts_by (app_for name models) words (codes "set")) s k vs p

@@ -5,14 +5,13 @@ use Rattle.clap.specs.declared.error.kind.ErrorKind.{ErrorKind}
 use Rattle.clap.specs.declared.error.kind.ErrorKind.TheVariants as kind
 use Rattle.vt_key.specs.declared.fault.Fault.{Fault}
 use Rattle.vt_key.specs.declared.fault.Fault.TheVariants.{Memory, BadOption}
-use Rattle.vt_options.specs.Line.{subcommand_by, given_by}
-use Rattle.vt_options.specs.Table.{Given}
+use Rattle.vt_options.specs.Line.{subcommand_by}
 
--- a command line with `run` and `replay`: its parser, and which bad option of a run or a replay is named
+-- a command line with `run` and `replay`: its parser, and which bad option is named of the words of a run or a replay
 pub record Line : Type 0 where
   pub app : App
-  pub bad_of_run : Given → Option Text
-  pub bad_of_replay : Given → Option Text
+  pub bad_of_run : List Text → Option Text
+  pub bad_of_replay : List Text → Option Text
 
 -- the words ask for help
 abbrev pub AskHelpOf : App → List Text → Type 0
@@ -24,9 +23,9 @@ pub record AreBy (app : App) (name : Text) (words : List Text) : Type 0 where
   pub subcommand : subcommand_by app words ≡ Some name
 
 -- the words are those of a subcommand with a bad option, the first of which has this name
-pub record HasBadBy (app : App) (subcommand : Text) (first_bad : Given → Option Text) (words : List Text) (name : Text) : Type 0 where
+pub record HasBadBy (app : App) (subcommand : Text) (first_bad : List Text → Option Text) (words : List Text) (name : Text) : Type 0 where
   pub are : AreBy app subcommand words
-  pub bad : first_bad (given_by app words) ≡ Some name
+  pub bad : first_bad words ≡ Some name
 
 -- the words have a bad option, the first of which has this name
 abbrev pub HasBadOptionOf : Line → List Text → Text → Type 0

@@ -1,19 +1,21 @@
 //! Requests: what the command line of a program of models asks for.
 
-ghost use Rattle.std.specs.Prelude.{◌≡◌, ◌++◌, [], List, IfOk, IfErr, map};
+ghost use Rattle.std.specs.Prelude.{◌≡◌, ◌++◌, [], List, IfOk, IfErr, codes, false, map};
 ghost use Rattle.clap.specs.Words.{Text, fault_of, subcommand_of, subcommand_rows_of, first_value, found_of, HasKind};
-ghost use Rattle.vt_options.specs.Line.{names_of};
-ghost use Rattle.vt_options.specs.Own.{AllHaveDefaults, GiveRun, GiveReplay, NamesBad, models_of, number_table, table_names, tables_of, naming_names, app_for, line_for, run_names, replay_names, first_bad_of_run, first_bad_of_replay};
+ghost use Rattle.vt_options.specs.Line.{names_of, once, options_of, texts_in};
+ghost use Rattle.vt_options.specs.Own.{AllHaveDefaults, GiveRun, GiveReplay, NamesBad, models_of, number_table, table_names, tables_of, naming_names, app_for, line_for, program_options, run_options, replay_options, first_bad_of_run, first_bad_of_replay};
 ghost use Rattle.vt_options.specs.Requests.{IsRefusedByOf};
 ghost use Rattle.vt_options.specs.Asked.{IsAsked};
 
-use crate::line::{ProgramTexts, matches_in};
+use crate::line::{LineOption, ProgramTexts, matches_in};
 use crate::models::{model_option, model_values};
 use crate::own::{Chosen, ModelOptions, ModelTable, OwnOption};
+use crate::programs::program_option;
 use crate::reading::{config_options, number_option, synch_option, text_option};
 use crate::refusing::help_of;
 use crate::texts::{
-    END, LPS, OptionText, REPLAY_WORKERS, SEED, SERIAL, SYNCH, TEXT, TURNS, WORKERS,
+    DATA, END, FUEL, LPS, OptionText, PROGRAM, REPLAY_WORKERS, SEED, SERIAL, SET, SYNCH, TEXT,
+    TURNS, WORKERS,
 };
 use crate::{MAX_TURNS, ReplaySettings, RunSettings, Task};
 use clap::{ArgMatches, Error};
@@ -23,56 +25,66 @@ use vt_key::{Fault, MAX_COUNT};
 
 /// What the command line of a program asks for.
 #[derive(Debug, Drop)]
-pub enum Request {
-    /// A task, for this model with these values of its options.
-    Task(Task, Chosen),
+pub enum Request<'a> {
+    /// A task, for this model with these values of its options, or for a program.
+    Task(Task, Chosen<'a>),
     /// Help, with its text.
     Help(String),
 }
 
-/// Adds these options to a list.
-fn add_all(list: &mut Vec<OptionText>, more: &[OptionText]) -> Result<(), AllocError>
-    ensures { IfOk result (λ _. names_of list.new.items ≡ names_of list.old.items ++ names_of more.now) }
+/// An option that a line gives once at most.
+fn once(text: OptionText) -> LineOption
+    ensures { (result.text ≡ text) × (result.repeats ≡ false) }
+{
+    LineOption {
+        text,
+        repeats: false,
+    }
+}
+
+/// Adds these options, which a line gives once at most, to a list.
+fn add_all(list: &mut Vec<LineOption>, more: &[OptionText]) -> Result<(), AllocError>
+    ensures { IfOk result (λ _. options_of list.new.items ≡ options_of list.old.items ++ map once (names_of more.now)) }
 {
     for text in more {
-        list.push(*text)?;
+        list.push(once(*text))?;
     }
     Ok(())
 }
 
 /// Adds the option that names the model to a list, where there is one.
-fn add_naming(list: &mut Vec<OptionText>, table: &ModelTable<'_>) -> Result<(), AllocError>
-    ensures { IfOk result (λ _. names_of list.new.items ≡ names_of list.old.items ++ naming_names (models_of table.now).naming) }
+fn add_naming(list: &mut Vec<LineOption>, table: &ModelTable<'_>) -> Result<(), AllocError>
+    ensures { IfOk result (λ _. options_of list.new.items ≡ options_of list.old.items ++ map once (naming_names (models_of table.now).naming)) }
 {
     if let Some(text) = &table.naming {
-        list.push(*text)?;
+        list.push(once(*text))?;
     }
     Ok(())
 }
 
 /// Adds the options of a model to a list.
 fn add_own(
-    list: &mut Vec<OptionText>,
+    list: &mut Vec<LineOption>,
     heading: &'static str,
     own: &[OwnOption],
 ) -> Result<(), AllocError>
-    ensures { IfOk result (λ _. names_of list.new.items ≡ names_of list.old.items ++ map (λ o. o.name) (number_table own.now)) }
+    ensures { IfOk result (λ _. options_of list.new.items ≡ options_of list.old.items ++ map once (map (λ o. o.name) (number_table own.now))) }
 {
     for option in own {
-        list.push(OptionText {
+        list.push(once(OptionText {
             name: option.name,
             value: "N",
             heading,
             takes: "",
             help: option.help,
-        })?;
+        }))?;
     }
     Ok(())
 }
 
 /// Adds the options of all models to a list.
-fn add_models(list: &mut Vec<OptionText>, models: &[ModelOptions<'_>]) -> Result<(), AllocError>
-    ensures { IfOk result (λ _. names_of list.new.items ≡ names_of list.old.items ++ table_names (tables_of models.now)) }
+fn add_models(list: &mut Vec<LineOption>, models: &[ModelOptions<'_>]) -> Result<(), AllocError>
+    ensures { IfOk result (λ _. options_of list.new.items ≡ options_of list.old.items ++ map once (table_names (tables_of models.now))) }
 {
     for model in models {
         add_own(list, model.heading, model.options)?;
@@ -80,39 +92,57 @@ fn add_models(list: &mut Vec<OptionText>, models: &[ModelOptions<'_>]) -> Result
     Ok(())
 }
 
+/// Adds the options of programs to a list, where the table lets them take a model's place.
+fn add_programs(list: &mut Vec<LineOption>, programs: bool) -> Result<(), AllocError>
+    ensures { IfOk result (λ _. options_of list.new.items ≡ options_of list.old.items ++ program_options programs) }
+{
+    if programs {
+        list.push(once(PROGRAM))?;
+        list.push(LineOption {
+            text: SET,
+            repeats: true,
+        })?;
+        list.push(once(DATA))?;
+        list.push(once(FUEL))?;
+    }
+    Ok(())
+}
+
 /// The options of `run`, in the order in which they are tested.
-fn run_options(alloc: Global, table: &ModelTable<'_>) -> Result<Vec<OptionText>, AllocError>
-    ensures { IfOk result (λ list. names_of list.items ≡ run_names (models_of table.now)) }
+fn run_options(alloc: Global, table: &ModelTable<'_>) -> Result<Vec<LineOption>, AllocError>
+    ensures { IfOk result (λ list. options_of list.items ≡ run_options (models_of table.now)) }
 {
     let mut list = Vec::new(alloc);
     add_naming(&mut list, table)?;
     add_all(&mut list, &[SYNCH, WORKERS, LPS, END, SEED])?;
     add_models(&mut list, table.models)?;
     add_all(&mut list, &[TURNS, TEXT])?;
+    add_programs(&mut list, table.programs)?;
     Ok(list)
 }
 
 /// The options of `replay`, in the order in which they are tested.
-fn replay_options(alloc: Global, table: &ModelTable<'_>) -> Result<Vec<OptionText>, AllocError>
-    ensures { IfOk result (λ list. names_of list.items ≡ replay_names (models_of table.now)) }
+fn replay_options(alloc: Global, table: &ModelTable<'_>) -> Result<Vec<LineOption>, AllocError>
+    ensures { IfOk result (λ list. options_of list.items ≡ replay_options (models_of table.now)) }
 {
     let mut list = Vec::new(alloc);
     add_naming(&mut list, table)?;
     add_all(&mut list, &[REPLAY_WORKERS, LPS, END, SEED])?;
     add_models(&mut list, table.models)?;
     add_all(&mut list, &[SERIAL, TEXT])?;
+    add_programs(&mut list, table.programs)?;
     Ok(list)
 }
 
-/// The settings of a run, and the model with the values of its options.
-fn read_run(
+/// The settings of a run, and the model with the values of its options, or the program.
+fn read_run<'a>(
     alloc: Global,
-    matches: &ArgMatches,
+    matches: &ArgMatches<'a>,
     table: &ModelTable<'_>,
-) -> Result<(RunSettings, Chosen), Fault>
+) -> Result<(RunSettings, Chosen<'a>), Fault>
     requires { AllHaveDefaults table.now.models.now }
-    ensures ok { IfOk result (λ r. GiveRun (models_of table.now) (first_value (found_of matches.now)) r.0 r.1.model r.1.values.items) }
-    ensures err { IfErr result (NamesBad (first_bad_of_run (models_of table.now) (first_value (found_of matches.now)))) }
+    ensures ok { IfOk result (λ r. GiveRun (models_of table.now) (first_value (found_of matches.now)) (texts_in matches.now (codes "set")) r.0 r.1.model r.1.values.items r.1.program) }
+    ensures err { IfErr result (NamesBad (first_bad_of_run (models_of table.now) (first_value (found_of matches.now)) (texts_in matches.now (codes "set")))) }
 {
     let model = model_option(matches, table)?;
     let synch = synch_option(matches)?;
@@ -120,36 +150,48 @@ fn read_run(
     let values = model_values(alloc, matches, table.models, model)?;
     let turns = number_option(matches, "turns", 1, MAX_TURNS, 10_000_000)?;
     let text = text_option(matches)?;
+    let program = program_option(alloc, matches, table, config.lps)?;
     let settings = RunSettings {
         synch,
         config,
         turns,
         text,
     };
-    Ok((settings, Chosen { model, values }))
+    let chosen = Chosen {
+        model,
+        values,
+        program,
+    };
+    Ok((settings, chosen))
 }
 
-/// The settings of a replay, and the model with the values of its options.
-fn read_replay(
+/// The settings of a replay, and the model with the values of its options, or the program.
+fn read_replay<'a>(
     alloc: Global,
-    matches: &ArgMatches,
+    matches: &ArgMatches<'a>,
     table: &ModelTable<'_>,
-) -> Result<(ReplaySettings, Chosen), Fault>
+) -> Result<(ReplaySettings, Chosen<'a>), Fault>
     requires { AllHaveDefaults table.now.models.now }
-    ensures ok { IfOk result (λ r. GiveReplay (models_of table.now) (first_value (found_of matches.now)) r.0 r.1.model r.1.values.items) }
-    ensures err { IfErr result (NamesBad (first_bad_of_replay (models_of table.now) (first_value (found_of matches.now)))) }
+    ensures ok { IfOk result (λ r. GiveReplay (models_of table.now) (first_value (found_of matches.now)) (texts_in matches.now (codes "set")) r.0 r.1.model r.1.values.items r.1.program) }
+    ensures err { IfErr result (NamesBad (first_bad_of_replay (models_of table.now) (first_value (found_of matches.now)) (texts_in matches.now (codes "set")))) }
 {
     let model = model_option(matches, table)?;
     let config = config_options(matches)?;
     let values = model_values(alloc, matches, table.models, model)?;
     let serial = number_option(matches, "serial", 0, MAX_COUNT, 0)?;
     let text = text_option(matches)?;
+    let program = program_option(alloc, matches, table, config.lps)?;
     let settings = ReplaySettings {
         config,
         serial,
         text,
     };
-    Ok((settings, Chosen { model, values }))
+    let chosen = Chosen {
+        model,
+        values,
+        program,
+    };
+    Ok((settings, chosen))
 }
 
 /// What the parser makes of a command line of a program of these models.
@@ -169,7 +211,11 @@ pub(crate) fn table_matches<'a, S: AsStr>(
 }
 
 /// The request of a command line that the parser has accepted.
-fn request_of(alloc: Global, matches: &ArgMatches, table: &ModelTable<'_>) -> Result<Request, Fault>
+fn request_of<'a>(
+    alloc: Global,
+    matches: &ArgMatches<'a>,
+    table: &ModelTable<'_>,
+) -> Result<Request<'a>, Fault>
     requires { AllHaveDefaults table.now.models.now }
     ensures ok { (name : Text) (words : List Text) → fault_of (app_for name (models_of table.now)) words ≡ [] → subcommand_rows_of matches.now ≡ subcommand_of (app_for name (models_of table.now)) words
         → IfOk result (IsAsked name (models_of table.now) words) }
@@ -195,17 +241,18 @@ fn request_of(alloc: Global, matches: &ArgMatches, table: &ModelTable<'_>) -> Re
 ///
 /// Options are tested in this order. Of `run`: the one that names the model, `synch`, `workers`, `lps`, `end`, `seed`, those of all
 /// models, `turns`, `text`. Of `replay`: the one that names the model, `workers`, `lps`, `end`, `seed`, those of all models, `serial`,
-/// `text`.
+/// `text`. Then, where the table lets a program take a model's place: `program`, `set`, `fuel`. `program` is bad if a model is named
+/// too, and `set` if it isn't NAME=VALUE. The words say nothing of what the files have.
 ///
 /// [`Fault::BadOption`] with an option's name: this is the first bad option in that order. Options of models that aren't
 /// chosen are tested too. [`Fault::BadOption`] with `command-line`: the words have no meaning. A word is unknown, an option has
 /// no value or is given twice, or the subcommand is missing or unknown. [`Fault::Memory`]: memory was refused.
-pub fn read_request<S: AsStr>(
+pub fn read_request<'a, S: AsStr>(
     alloc: Global,
     texts: &ProgramTexts,
     table: &ModelTable<'_>,
-    words: &[S],
-) -> Result<Request, Fault>
+    words: &'a [S],
+) -> Result<Request<'a>, Fault>
     requires { AllHaveDefaults table.now.models.now }
     ensures ok { IfOk result (IsAsked texts.now.name.now (models_of table.now) (map S.text words.now)) }
     ensures err { IfErr result (IsRefusedByOf (line_for texts.now.name.now (models_of table.now)) (map S.text words.now)) }

@@ -45,3 +45,37 @@ pub enum Task {
     /// A replay with these settings.
     Replay(ReplaySettings),
 }
+
+impl Task {
+    ghost use Rattle.std.specs.Prelude.{◌≡◌};
+    ghost use Rattle.vt_options.specs.Tasks.{task_config, with_config};
+
+    /// The config of its settings.
+    pub fn config(&self) -> Config
+        ensures { result ≡ task_config self.now }
+    {
+        match self {
+            Task::Run(settings) => settings.config,
+            Task::Replay(settings) => settings.config,
+        }
+    }
+
+    /// The same task with another config.
+    pub fn with_config(&self, config: Config) -> Task
+        ensures { result ≡ with_config config self.now }
+    {
+        match self {
+            Task::Run(settings) => Task::Run(RunSettings {
+                synch: settings.synch,
+                config,
+                turns: settings.turns,
+                text: settings.text,
+            }),
+            Task::Replay(settings) => Task::Replay(ReplaySettings {
+                config,
+                serial: settings.serial,
+                text: settings.text,
+            }),
+        }
+    }
+}

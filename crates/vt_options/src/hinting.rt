@@ -1,16 +1,19 @@
 //! What a terminal is told after a refusal: which word it was, and what is allowed.
 
-ghost use Rattle.std.specs.Prelude.{◌≡◌, IfSome, map, string_bytes};
-ghost use Rattle.clap.specs.Words.{Text};
+ghost use Rattle.std.specs.Prelude.{◌≡◌, ◌⊎◌, Some, IfSome, codes, map, string_bytes};
+ghost use Rattle.clap.specs.Words.{Text, first_value, found_of};
+ghost use Rattle.vt_options.specs.Line.{texts_in};
+ghost use Rattle.vt_options.specs.Programs.{SetsNothing};
 ghost use Rattle.vt_options.specs.Own.{AllHaveDefaults, line_for, models_of};
 ghost use Rattle.vt_options.specs.Hints.{IsHintOn, no_command, option_takes, parser_says};
 
 use crate::asking::{read_request, table_matches};
 use crate::line::ProgramTexts;
 use crate::own::{ModelTable, OwnOption};
-use crate::texts::{EVERY_MODEL, OptionText};
-use clap::Error;
+use crate::programs::unset_in;
+use crate::texts::{EVERY_MODEL, OF_PROGRAMS, OptionText};
 use clap::error::ErrorKind;
+use clap::{ArgMatches, Error};
 use std::alloc::Global;
 use std::convert::AsStr;
 use vt_key::Fault;
@@ -86,7 +89,20 @@ fn table_takes(alloc: Global, table: &ModelTable<'_>, name: &str) -> Option<Stri
             return Some(takes);
         }
     }
-    takes_of(&EVERY_MODEL, name)?.to_string(alloc).ok()
+    let takes = takes_of(&EVERY_MODEL, name).or(takes_of(&OF_PROGRAMS, name));
+    takes?.to_string(alloc).ok()
+}
+
+/// The word that is refused of those that an option is given: of `set`, where it belongs to programs, the first that sets nothing, and
+/// else the first.
+fn refused_word<'a>(matches: &ArgMatches<'a>, programs: bool, name: &str) -> Option<&'a str>
+    ensures { IfSome result (λ word. (first_value (found_of matches.now) name.now ≡ Some word.now)
+        ⊎ ((name.now ≡ codes "set") × SetsNothing (texts_in matches.now (codes "set")) word.now)) }
+{
+    if programs && name == "set" {
+        return unset_in(matches.get_strs("set")?);
+    }
+    matches.get_str(name)
 }
 
 /// A line for a terminal where [`read_request`] refuses a command line: which word it was, and what is allowed. There is one only for
@@ -115,7 +131,7 @@ pub fn hint<S: AsStr>(
     let Some((_, inner)) = matches.subcommand() else {
         return hint_on_missing(alloc, texts.name);
     };
-    let word = inner.get_str(name)?;
+    let word = refused_word(inner, table.programs, name)?;
     let takes = table_takes(alloc, table, name)?;
     hint_on_option(alloc, texts.name, name, takes.as_str(), word)
 }

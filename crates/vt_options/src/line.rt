@@ -3,10 +3,10 @@
 ghost use Rattle.std.specs.Prelude.{◌≡◌, IfOk, IfErr, map, false, []};
 ghost use Rattle.clap.specs.Words.{app_of, new_app, with_subcommand, rule_of, subcommand_of, subcommand_rows_of, fault_of, HasKind};
 ghost use Rattle.clap.specs.declared.builder.command.Command.TheViews.{out-Command};
-ghost use Rattle.vt_options.specs.Line.{option_rule, with_options, program_app, names_of};
+ghost use Rattle.vt_options.specs.Line.{option_of, option_rule, options_of, with_options, program_app};
 
 use crate::texts::OptionText;
-use clap::{Arg, ArgMatches, Command, Error};
+use clap::{Arg, ArgAction, ArgMatches, Command, Error};
 use std::alloc::{AllocError, Global};
 use std::convert::AsStr;
 
@@ -29,16 +29,31 @@ const RUN_ABOUT: &str =
 const REPLAY_ABOUT: &str =
     "Reads the steps of a Time Warp run, a line for each, and prints what they are answered";
 
+/// An option of a subcommand.
+#[derive(Debug, Clone, Copy)]
+pub(crate) struct LineOption {
+    /// What help shows of it.
+    pub(crate) text: OptionText,
+    /// Whether a line may give it more than once.
+    pub(crate) repeats: bool,
+}
+
 /// An option with a value.
-fn option<'a>(alloc: Global, text: &OptionText) -> Arg<'a>
-    ensures rule { rule_of result ≡ option_rule text.now.name.now }
+fn option<'a>(alloc: Global, option: &LineOption) -> Arg<'a>
+    ensures rule { rule_of result ≡ option_rule (option_of option.now) }
     ensures local { result.global ≡ false }
 {
-    Arg::new(alloc, text.name)
+    let text = &option.text;
+    let arg = Arg::new(alloc, text.name)
         .long(text.name)
         .value_name(text.value)
         .help_heading(text.heading)
-        .help(text.help)
+        .help(text.help);
+    if option.repeats {
+        arg.action(ArgAction::Append)
+    } else {
+        arg
+    }
 }
 
 /// A command with these options.
@@ -46,14 +61,14 @@ fn command_of<'a>(
     alloc: Global,
     name: &'a str,
     about: &'static str,
-    options: &[OptionText],
+    options: &[LineOption],
 ) -> Result<Command<'a>, AllocError>
-    ensures app { IfOk result (λ c. app_of c ≡ with_options (new_app name.entry.now) (names_of options.now)) }
+    ensures app { IfOk result (λ c. app_of c ≡ with_options (new_app name.entry.now) (options_of options.now)) }
     ensures local { IfOk result (λ c. (out-Command c).has_globals ≡ false) }
 {
     let mut command = Command::new(alloc, name).about(about);
-    for text in options {
-        command = command.arg(option(alloc, text))?;
+    for taken in options {
+        command = command.arg(option(alloc, taken))?;
     }
     Ok(command)
 }
@@ -64,9 +79,9 @@ fn with_command<'a>(
     program: Command<'a>,
     name: &'a str,
     about: &'static str,
-    options: &[OptionText],
+    options: &[LineOption],
 ) -> Result<Command<'a>, AllocError>
-    ensures { IfOk result (λ c. app_of c ≡ with_subcommand (app_of program.entry) (with_options (new_app name.entry.now) (names_of options.now)).top) }
+    ensures { IfOk result (λ c. app_of c ≡ with_subcommand (app_of program.entry) (with_options (new_app name.entry.now) (options_of options.now)).top) }
 {
     let command = command_of(alloc, name, about, options)?;
     program.subcommand(command)
@@ -78,10 +93,10 @@ fn with_command<'a>(
 fn program_command<'a>(
     alloc: Global,
     texts: &ProgramTexts,
-    run: &[OptionText],
-    replay: &[OptionText],
+    run: &[LineOption],
+    replay: &[LineOption],
 ) -> Result<Command<'a>, AllocError>
-    ensures { IfOk result (λ c. app_of c ≡ program_app texts.now.name.now (names_of run.now) (names_of replay.now)) }
+    ensures { IfOk result (λ c. app_of c ≡ program_app texts.now.name.now (options_of run.now) (options_of replay.now)) }
 {
     let program = Command::new(alloc, texts.name)
         .about(texts.about)
@@ -99,13 +114,13 @@ fn program_command<'a>(
 pub(crate) fn matches_in<'a, S: AsStr>(
     alloc: Global,
     texts: &ProgramTexts,
-    run: &[OptionText],
-    replay: &[OptionText],
+    run: &[LineOption],
+    replay: &[LineOption],
     words: &'a [S],
 ) -> Result<ArgMatches<'a>, Error>
-    ensures ok { IfOk result (λ m. subcommand_rows_of m ≡ subcommand_of (program_app texts.now.name.now (names_of run.now) (names_of replay.now)) (map S.text words.entry.now)) }
-    ensures accepted { IfOk result (λ _. fault_of (program_app texts.now.name.now (names_of run.now) (names_of replay.now)) (map S.text words.entry.now) ≡ []) }
-    ensures err { IfErr result (HasKind (fault_of (program_app texts.now.name.now (names_of run.now) (names_of replay.now)) (map S.text words.entry.now))) }
+    ensures ok { IfOk result (λ m. subcommand_rows_of m ≡ subcommand_of (program_app texts.now.name.now (options_of run.now) (options_of replay.now)) (map S.text words.entry.now)) }
+    ensures accepted { IfOk result (λ _. fault_of (program_app texts.now.name.now (options_of run.now) (options_of replay.now)) (map S.text words.entry.now) ≡ []) }
+    ensures err { IfErr result (HasKind (fault_of (program_app texts.now.name.now (options_of run.now) (options_of replay.now)) (map S.text words.entry.now))) }
 {
     let command = program_command(alloc, texts, run, replay)?;
     command.try_get_matches_from(words)

@@ -5,6 +5,7 @@ ghost use Rattle.clap.specs.Words.{first_value, found_of};
 ghost use Rattle.vt_options.specs.Table.{first_bad_of};
 ghost use Rattle.vt_options.specs.Own.{HaveDefaults, AreWithin, GiveValues, NamesBad, number_table};
 
+use crate::programs::ProgramChoice;
 use crate::reading::small_option;
 use crate::texts::OptionText;
 use clap::ArgMatches;
@@ -44,15 +45,20 @@ pub struct ModelTable<'a> {
     pub naming: Option<OptionText>,
     /// The models, in the order in which their options are tested.
     pub models: &'a [ModelOptions<'a>],
+    /// Whether the file of a program may take the place of a model. Then a line may have `--program`, `--set`, `--data` and `--fuel`
+    /// too.
+    pub programs: bool,
 }
 
-/// The model that a command line chooses, and the values of its options.
+/// The model that a command line chooses, and the values of its options; or the program in its place.
 #[derive(Debug, Drop)]
-pub struct Chosen {
+pub struct Chosen<'a> {
     /// The model's index in the table of models.
     pub model: usize,
     /// The values of its options, in the order of its own table. Each is in its range.
     pub values: Vec<u32>,
+    /// The program that takes the model's place, if the words give one.
+    pub program: Option<ProgramChoice<'a>>,
 }
 
 /// The values of the options of a model, in the order of their table. Each is in its range; an option that isn't given has

@@ -99,6 +99,48 @@ pub(crate) const TEXT: OptionText = OptionText {
     help: "Version of the text of records: 1 has no priorities, 2 has them [default: 2]",
 };
 
+/// The heading of the options of programs.
+const PROGRAMS_HEADING: &str = "Options of a program, a RISC-V executable in the place of a model";
+
+/// The file of a program.
+pub(crate) const PROGRAM: OptionText = OptionText {
+    name: "program",
+    value: "FILE",
+    heading: PROGRAMS_HEADING,
+    takes: "the place of --model",
+    help: "Executable whose handlers are simulated, in the place of --model",
+};
+
+/// A number that is set before the run.
+pub(crate) const SET: OptionText = OptionText {
+    name: "set",
+    value: "NAME=VALUE",
+    heading: PROGRAMS_HEADING,
+    takes: "NAME=VALUE with a number from 0 to 18446744073709551615",
+    help: "Sets a global object to a number, any number of times",
+};
+
+/// The file of a program's data.
+pub(crate) const DATA: OptionText = OptionText {
+    name: "data",
+    value: "FILE",
+    heading: PROGRAMS_HEADING,
+    takes: "a file",
+    help: "File whose bytes the program may read",
+};
+
+/// The most instructions of a handler.
+pub(crate) const FUEL: OptionText = OptionText {
+    name: "fuel",
+    value: "N",
+    heading: PROGRAMS_HEADING,
+    takes: "1 to 4294967296",
+    help: "Most instructions of a handler, 1 to 4294967296 [default: 1000000]",
+};
+
+/// The options of programs.
+pub(crate) static OF_PROGRAMS: [OptionText; 4] = [PROGRAM, SET, DATA, FUEL];
+
 /// The options of every model, each once.
 pub(crate) static EVERY_MODEL: [OptionText; 8] = [
     SYNCH, WORKERS, LPS, END, SEED, TURNS, SERIAL, TEXT,

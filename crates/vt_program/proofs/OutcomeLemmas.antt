@@ -5,11 +5,11 @@ use Rattle.vt_key.specs.declared.fault.Fault.{Fault}
 use Rattle.vt_options.specs.Own.{Models}
 use Rattle.vt_command.specs.Table.{twarp_models}
 use Rattle.vt_tasks.specs.Models.{EndsFor}
-use Rattle.vt_program.specs.Models.{meaning_of, IsMadeOf}
+use Rattle.vt_program.specs.Models.{meaning_of, Makes}
 use Rattle.vt_program.specs.Outcomes.{EndsBy}
 
 -- each choice makes a model, so nothing is refused for its values
-pub ends_by : (fault : Fault) (words : List Text) (input old new : Option (List ℕ)) → EndsFor meaning_of IsMadeOf (codes "twarp") twarp_models fault words input old new → EndsBy fault words input old new
+pub ends_by : (fault : Fault) (words : List Text) (input old new : Option (List ℕ)) → EndsFor meaning_of Makes (codes "twarp") twarp_models fault words input old new → EndsBy fault words input old new
 ends_by fault words input old new (inl ends) = ends
 ends_by fault words input old new (inr none) = absurd none.refused
 

@@ -1,5 +1,6 @@
 -- The models of the program.
-use Rattle.std.specs.Prelude.{◌≡◌, ℕ, List, [], ◌∷◌, Option, Some, None}
+use Rattle.std.specs.Prelude.{◌≡◌, ℕ, List, [], ◌∷◌, Ok, Err}
+use Rattle.vt_model.specs.declared.settings.Config.{Config}
 use Rattle.vt_models.specs.Hop.{hop_handlers}
 use Rattle.vt_models.specs.Phold.{phold_handlers}
 use Rattle.vt_models.specs.Stations.{stations_handlers}
@@ -10,7 +11,7 @@ use Rattle.vt_options.specs.declared.own.Chosen.{Chosen}
 use Rattle.vt_options.specs.Own.{GiveModel}
 use Rattle.vt_options.specs.Table.{Given}
 use Rattle.vt_command.specs.Table.{twarp_models}
-use Rattle.vt_tasks.specs.Models.{AnyHandlers, any_handlers}
+use Rattle.vt_tasks.specs.Models.{AnyHandlers, Making, any_handlers}
 use Rattle.vt_program.specs.declared.models.TwarpModel.{TwarpModel}
 use Rattle.vt_program.specs.declared.models.TwarpModel.TheVariants.{Hop, Phold, Stations}
 
@@ -42,9 +43,13 @@ values_of (Phold m) = phold_values m
 values_of (Stations m) = stations_values m
 
 -- a choice makes the model that it names, of the values that it has for its options
-abbrev pub IsMadeOf : Chosen → Option TwarpModel → Type 0
-IsMadeOf chosen None = ⊥
-IsMadeOf chosen (Some m) = (chosen.model ≡ index_of m) × (chosen.values.items ≡ values_of m)
+abbrev pub IsMadeOf : Chosen → TwarpModel → Type 0
+IsMadeOf chosen m = (chosen.model ≡ index_of m) × (chosen.values.items ≡ values_of m)
+
+-- it is run with the config that is asked for
+abbrev pub Makes : Chosen → Config → Making TwarpModel → Type 0
+Makes chosen config (Ok made) = IsMadeOf chosen made.0 × (made.1 ≡ config)
+Makes chosen config (Err bad) = ⊥
 
 -- some texts make this choice
 pub record IsChoice (chosen : Chosen) : Type 0 where

@@ -5,11 +5,11 @@ use Rattle.vt_key.specs.declared.fault.Fault.{Fault}
 use Rattle.vt_command.specs.Table.{twarp_models}
 use Rattle.vt_tasks.specs.Outcomes.{Program, IsDoneBy, EndsWith, IsReadBy, AskBadLine}
 use Rattle.vt_tasks.specs.Models.{program_of}
-use Rattle.vt_program.specs.Models.{meaning_of, IsMadeOf}
+use Rattle.vt_program.specs.Models.{meaning_of, Makes}
 
 -- the program of the three models
 abbrev pub twarp : Program
-twarp = program_of meaning_of IsMadeOf (codes "twarp") twarp_models
+twarp = program_of meaning_of Makes (codes "twarp") twarp_models
 
 -- what the words ask for was done
 abbrev pub IsDoneByTwarp : List Text → Option (List ℕ) → Option (List ℕ) → Option (List ℕ) → Type 0

@@ -13,7 +13,7 @@ ghost use Rattle.clap.specs.Words.{Text};
 ghost use Rattle.vt_key.specs.declared.fault.Fault.{Fault};
 ghost use Rattle.vt_command.specs.Requests.{AskHelp, IsRefusedAs};
 ghost use Rattle.vt_program.specs.Refusals.{TellsRefusal, status_of};
-ghost use Rattle.vt_program.specs.Models.{IsChoice, IsMadeOf, meaning_of};
+ghost use Rattle.vt_program.specs.Models.{IsChoice, Makes, meaning_of};
 ghost use Rattle.vt_program.specs.Outcomes.{AskWithBadLine, IsDoneByTwarp, IsRead, EndsBy};
 ghost use Rattle.vt_tasks.specs.Models.{CarriesOut};
 ghost use Rattle.vt_tasks.specs.Tasks.{BeginsWithinLimit};
@@ -84,12 +84,11 @@ pub fn program<H: Threads + Wait + Sync, S: AsStr, R: Read, O: Write, E: Write, 
     ensures unrun { AskWithBadLine (map S.text words.now) (R.remaining reader.old) → (result ≢ 0) × Keeps (O.contents out.old) (O.contents out.new) }
     ensures read { IsRead (map S.text words.now) (R.remaining reader.old) (R.remaining reader.new) }
 {
-    let on_chosen = move |rt: &H, alloc: Global, chosen: &Chosen, task: &Task, watch: &W, input: &mut R, output: &mut O| -> Result<
-        (),
-        Fault,
-    >
+    let on_chosen = move |rt: &H, alloc: Global, chosen: &Chosen<
+        '_,
+    >, task: &Task, watch: &W, input: &mut R, output: &mut O| -> Result<(), Fault>
         requires { BeginsWithinLimit task.now × IsChoice chosen.now }
-        ensures { CarriesOut meaning_of IsMadeOf chosen.now task.now (R.remaining input.old) (R.remaining input.new) (O.contents output.old) (O.contents output.new) result }
+        ensures { CarriesOut meaning_of Makes chosen.now task.now (R.remaining input.old) (R.remaining input.new) (O.contents output.old) (O.contents output.new) result }
     { carry_out(rt, alloc, &model_of(chosen), task, watch, input, output) };
     models_program(
         rt,

@@ -1,6 +1,6 @@
 //! The models of the program: how each is made, run and replayed.
 
-ghost use Rattle.std.specs.Prelude.{◌≡◌, OnOk, IfErr, Some};
+ghost use Rattle.std.specs.Prelude.{◌≡◌, OnOk, IfErr};
 ghost use Rattle.vt_options.specs.Own.{AreInRange};
 ghost use Rattle.vt_tasks.specs.Tasks.{BeginsWithinLimit, IsTaskDone, TaskEnds, KeepsInput};
 ghost use Rattle.vt_command.specs.Table.{hop_table, phold_table, stations_table};
@@ -66,9 +66,9 @@ fn stations_of(values: &[u32]) -> Stations
 }
 
 /// The model that the words choose, made of the values that they give to its options.
-pub(crate) fn model_of(chosen: &Chosen) -> TwarpModel
+pub(crate) fn model_of(chosen: &Chosen<'_>) -> TwarpModel
     requires { IsChoice chosen.now }
-    ensures { IsMadeOf chosen.now (Some result) }
+    ensures { IsMadeOf chosen.now result }
 {
     let values = chosen.values.as_slice();
     match chosen.model {

@@ -10,7 +10,7 @@ ghost use Rattle.vt_options.specs.Requests.{AskHelpOf, IsRefusedAsOf};
 ghost use Rattle.vt_tasks.specs.Refusals.{TellsRefusalOf, status_of};
 ghost use Rattle.vt_tasks.specs.Tasks.{BeginsWithinLimit};
 ghost use Rattle.vt_tasks.specs.Models.{any_handlers, CarriesOut};
-ghost use Rattle.vt_runner.specs.OneModel.{IsDoneOf, EndsOf, IsReadOf, AskBadLineOf};
+ghost use Rattle.vt_runner.specs.OneModel.{MakesBy, IsDoneOf, EndsOf, IsReadOf, AskBadLineOf};
 
 use crate::carry_out;
 use std::alloc::Global;
@@ -111,13 +111,13 @@ where
     let table = ModelTable {
         naming: None,
         models: &models,
+        programs: false,
     };
-    let on_made = move |rt: &H, alloc: Global, chosen: &Chosen, task: &Task, watch: &W, input: &mut R, output: &mut O| -> Result<
-        (),
-        Fault,
-    >
+    let on_made = move |rt: &H, alloc: Global, chosen: &Chosen<
+        '_,
+    >, task: &Task, watch: &W, input: &mut R, output: &mut O| -> Result<(), Fault>
         requires { BeginsWithinLimit task.now × ((values : _) → values.now ≡ chosen.now.values.items → F.pre make values) }
-        ensures { CarriesOut (λ model. any_handlers (M.handlers model)) (λ choice made. FnReturnsAt F.Fn make choice.values.items made) chosen.now task.now (R.remaining input.old) (R.remaining input.new) (O.contents output.old) (O.contents output.new) result }
+        ensures { CarriesOut (λ model. any_handlers (M.handlers model)) (MakesBy (λ values made. FnReturnsAt F.Fn make values made)) chosen.now task.now (R.remaining input.old) (R.remaining input.new) (O.contents output.old) (O.contents output.new) result }
     {
         let Some(model) = make(chosen.values.as_slice()) else {
             return Err(Fault::BadOption("values"));

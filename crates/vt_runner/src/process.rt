@@ -136,6 +136,7 @@ pub fn hint_of_process<H: Env + AllocGlobal>(
     let table = ModelTable {
         naming: None,
         models: &models,
+        programs: false,
     };
     hint(rt.alloc(), texts, &table, words.as_slice())
 }

@@ -148,19 +148,8 @@ module _ (p : Program) (is : IsAskedByLine p) (words : List Text) (input : Optio
 
   not_read : (r : p.Replay) (steps : List NumberedStep) → p.AskReplay words r → GivesSteps (p.config_of r) input steps → ⊥
   not_read r steps asked given =
-      let own = is.config words r asked in
-      let other = is.config words bad.options bad.asked in
-      let lps_are : Some (p.config_of r).lps ≡ Some (p.config_of bad.options).lps = sym own.lps ∙ other.lps in
-      let workers_are : Some (p.config_of r).workers ≡ Some (p.config_of bad.options).workers = sym own.workers ∙ other.workers in
-      let lps : (p.config_of r).lps ≡ (p.config_of bad.options).lps = cc in
-      let workers : (p.config_of r).workers ≡ (p.config_of bad.options).workers = cc in
-      let text = told given.text given.given.told in
-      let said : Ok steps ≡ Err bad.line =
-      sym given.said
-      ∙ ap (λ n. steps_of n (p.config_of r).workers given.text) lps
-      ∙ ap (λ n. steps_of (p.config_of bad.options).lps n given.text) workers
-      ∙ ap (steps_of (p.config_of bad.options).lps (p.config_of bad.options).workers) text
-      ∙ bad.said in
+      let line = bad.bad r asked in
+      let said : Ok steps ≡ Err line.0 = sym given.said ∙ ap (steps_of (p.config_of r).lps (p.config_of r).workers) (told given.text given.given.told) ∙ line.1 in
       absurd cc
 
   no_help : AskHelpOf p.line.app words → ⊥

@@ -7,13 +7,14 @@ use denote.Ref.{Bor, MutBor}
 use Rattle.clap.specs.Words.{Text}
 use Rattle.vt_key.specs.declared.fault.Fault.{Fault}
 use Rattle.vt_key.specs.declared.fault.Fault.TheVariants.{Output}
+use Rattle.vt_model.specs.declared.settings.Config.{Config}
 use Rattle.vt_options.specs.declared.choices.Task.{Task}
 use Rattle.vt_options.specs.declared.own.Chosen.{Chosen}
 use Rattle.vt_options.specs.Own.{Models, app_for, line_for}
 use Rattle.vt_options.specs.Requests.{AskHelpOf, IsRefusedAsOf}
 use Rattle.vt_tasks.specs.Outcomes.{BeginsHelp, EndsWith}
 use Rattle.vt_tasks.specs.Programs.{CallAnswers, IsTaskAnswered, IsDoneByCall, EndsByCall, IsReadByCall}
-use Rattle.vt_tasks.specs.Models.{AnyHandlers, CarriesOut, program_of, IsDoneFor, EndsFor, IsReadFor, AskBadLineFor}
+use Rattle.vt_tasks.specs.Models.{AnyHandlers, CarriesOut, Making, program_of, IsDoneFor, EndsFor, IsReadFor, AskBadLineFor}
 use Rattle.vt_tasks.specs.Refusals.{status_of}
 use Rattle.vt_tasks.proofs.ModelsLemmas as models
 
@@ -28,7 +29,7 @@ module _ (name : Text) (table : Models) (words : List Text) (Answers : Chosen �
   answer_ends (Ok done) h = tt
   answer_ends (Err fault) h = inr (inr h)
 
-module _ {C F H Z W R O : Type 0} (meaning : C → AnyHandlers) (Makes : Chosen → Option C → Type 0) (remaining : R → Option (List ℕ)) (contents : O → Option (List ℕ)) {g : Once F (Bor H × (Z × (Bor Chosen × (Bor Task × (Bor W × (MutBor R × (MutBor O × Unit {0}))))))) (Result ⊤ Fault × (MutBor R × (MutBor O × Unit {0})))} {f : F} {reader reader' : R} {out out' : O} {chosen : Chosen} {task : Task} {answer : Result ⊤ Fault} where
+module _ {C F H Z W R O : Type 0} (meaning : C → AnyHandlers) (Makes : Chosen → Config → Making C → Type 0) (remaining : R → Option (List ℕ)) (contents : O → Option (List ℕ)) {g : Once F (Bor H × (Z × (Bor Chosen × (Bor Task × (Bor W × (MutBor R × (MutBor O × Unit {0}))))))) (Result ⊤ Fault × (MutBor R × (MutBor O × Unit {0})))} {f : F} {reader reader' : R} {out out' : O} {chosen : Chosen} {task : Task} {answer : Result ⊤ Fault} where
   -- a call that carries tasks out on a model does so for what it is handed
   pub carried : CallAnswers g (λ given told. told ≡ given) f reader reader' out out' chosen task answer
       → ((at_rt : Bor H) (at_alloc : Z) (at_chosen : Bor Chosen) (at_task : Bor Task) (at_watch : Bor W) (at_reader : MutBor R) (at_out : MutBor O) (given : Result ⊤ Fault) (left_reader : MutBor R) (left_out : MutBor O)
@@ -45,7 +46,7 @@ module _ {C F H Z W R O : Type 0} (meaning : C → AnyHandlers) (Makes : Chosen 
       let to_out = subst (λ (x : O). CarriesOut meaning Makes chosen task (remaining reader) (remaining reader') (contents out) (contents x) h.given) h.leaves.1 to_reader in
       subst (λ (x : Result ⊤ Fault). CarriesOut meaning Makes chosen task (remaining reader) (remaining reader') (contents out) (contents out') x) (sym h.converted) to_out
 
-module _ {C : Type 0} (meaning : C → AnyHandlers) (Makes : Chosen → Option C → Type 0) (name : Text) (table : Models) (words : List Text) (remaining left old new : Option (List ℕ)) where
+module _ {C : Type 0} (meaning : C → AnyHandlers) (Makes : Chosen → Config → Making C → Type 0) (name : Text) (table : Models) (words : List Text) (remaining left old new : Option (List ℕ)) where
   -- help that was written in part ends the program so
   help_ends : (fault : Fault) → fault ≡ Output → BeginsHelp (app_for name table) words old new → EndsWith (program_of meaning Makes name table) words fault remaining old new
   help_ends fault is h = subst (λ (f : Fault). EndsWith (program_of meaning Makes name table) words f remaining old new) (sym is) (inl h)
@@ -59,8 +60,7 @@ module _ {C : Type 0} (meaning : C → AnyHandlers) (Makes : Chosen → Option C
     program_done : IsDoneByCall name table words Answers old new → Carry Answers → IsDoneFor meaning Makes name table words remaining old new
     program_done (inl help) carry = inl help
     program_done (inr h) carry =
-        let does = (carry h.chosen h.task _ h.answered).ok in
-        models.task_done meaning Makes name table words remaining old new h.task h.chosen does.model h.asked does.made does.done
+        models.task_done meaning Makes name table words remaining left old new h.task h.chosen h.asked (carry h.chosen h.task _ h.answered).ok
 
     -- or it was refused
     program_ends : (fault : Fault) → EndsByCall name table words Answers fault old new → Carry Answers → EndsFor meaning Makes name table fault words remaining old new
@@ -68,8 +68,8 @@ module _ {C : Type 0} (meaning : C → AnyHandlers) (Makes : Chosen → Option C
     program_ends fault (inr (inl help)) carry = inl (help_ends fault help.0 help.1)
     program_ends fault (inr (inr h)) carry =
         elim (carry h.chosen h.task _ h.answered).err [
-          | inl stops ↦ inl (models.task_ends meaning Makes name table words remaining old new h.task h.chosen stops.model h.asked stops.made fault stops.ends)
-          | inr none ↦ models.values_refused meaning Makes name table words remaining old new none.kept h.task h.chosen fault h.asked none.refused none.named
+          | inl stops ↦ inl (models.task_ends meaning Makes name table words remaining left old new h.task h.chosen h.asked fault stops)
+          | inr none ↦ models.none_made meaning Makes name table words remaining old new none.kept h.task h.chosen fault h.asked none.why
         ]
 
     -- the reader was kept, or the words ask for a replay

@@ -1,17 +1,22 @@
 -- A program of models: what its words ask for, and what it writes.
-use Rattle.std.specs.Prelude.{◌≡◌, ◌⊎◌, ⊤, ℕ, List, Option, Some, None, Result, OnOk, IfErr, codes}
+use Rattle.std.specs.Prelude.{◌≡◌, ◌⊎◌, ⊤, ℕ, List, Option, Some, Result, Ok, Err, OnOk, IfErr}
 use Rattle.std.specs.Io.KnownBytes.{Keeps}
 use Rattle.clap.specs.Words.{Text}
 use Rattle.vt_key.specs.declared.fault.Fault.{Fault}
+use Rattle.vt_key.specs.declared.fault.Fault.TheVariants.{Memory}
 use Rattle.vt_key.specs.Faults.{option_named}
+use Rattle.vt_model.specs.declared.settings.Config.{Config}
 use Rattle.vt_model.specs.Handler.{Handlers}
 use Rattle.vt_model.specs.Simulation.{simulation_of}
 use Rattle.vt_world.specs.Answers.{PassesAtStart}
 use Rattle.vt_options.specs.declared.choices.RunSettings.{RunSettings}
 use Rattle.vt_options.specs.declared.choices.ReplaySettings.{ReplaySettings}
 use Rattle.vt_options.specs.declared.choices.Task.{Task}
+use Rattle.vt_options.specs.declared.choices.Task.TheVariants.{Run, Replay}
 use Rattle.vt_options.specs.declared.own.Chosen.{Chosen}
-use Rattle.vt_options.specs.Own.{Models, line_for, AskRunWith, AskReplayWith}
+use Rattle.vt_options.specs.Asked.{AskTaskWith}
+use Rattle.vt_options.specs.Own.{Models, line_for}
+use Rattle.vt_options.specs.Tasks.{task_config, with_config}
 use Rattle.vt_tasks.specs.Runs.{run_text, text_below, PassesInRun}
 use Rattle.vt_tasks.specs.Replays.{IsReplayOf, AreRepliesOf}
 use Rattle.vt_tasks.specs.Tasks.{IsTaskDone, TaskEnds, KeepsInput}
@@ -27,41 +32,45 @@ pub record AnyHandlers : Type 1 where
 abbrev pub any_handlers : {S P K : Type 0} → Handlers S P K → AnyHandlers
 any_handlers {S} {P} {K} h = record { State = S; Payload = P; Kept = K; handlers = h }
 
--- a run of a model: its settings, what the words chose, and the model
+-- what is made of a choice and a config: a model, and the config with which it is run, or no model, since the option of this name is
+-- bad
+abbrev pub Making : Type 0 → Type 0
+Making C = Result (C × Config) Text
+
+-- a run of a model: the settings that the words give, what they choose, the model, and the config with which it is run
 pub record RunOf (C : Type 0) : Type 0 where
   pub settings : RunSettings
   pub chosen : Chosen
   pub model : C
+  pub config : Config
 
 -- a replay on a model
 pub record ReplayOf (C : Type 0) : Type 0 where
   pub settings : ReplaySettings
   pub chosen : Chosen
   pub model : C
+  pub config : Config
 
--- the words ask for a run or a replay with this choice
-abbrev pub AskWith : Text → Models → List Text → Chosen → Type 0
-AskWith name models words c =
-    ((s : RunSettings) × AskRunWith name models words s c.model c.values.items) ⊎ ((s : ReplaySettings) × AskReplayWith name models words s c.model c.values.items)
-
--- models with these handlers, which a choice may make, or nothing
-module _ {C : Type 0} (meaning : C → AnyHandlers) (Makes : Chosen → Option C → Type 0) (chosen : Chosen) (task : Task) (remaining left old new : Option (List ℕ)) where
+-- models with these handlers, which may be made of a choice and a config, or nothing
+module _ {C : Type 0} (meaning : C → AnyHandlers) (Makes : Chosen → Config → Making C → Type 0) (chosen : Chosen) (task : Task) (remaining left old new : Option (List ℕ)) where
   -- the choice makes a model, with which the task was done
   pub record DoesTask : Type 0 where
     pub model : C
-    pub made : Makes chosen (Some model)
-    pub done : IsTaskDone (meaning model).handlers task remaining old new
+    pub config : Config
+    pub made : Makes chosen (task_config task) (Ok (model, config))
+    pub done : IsTaskDone (meaning model).handlers (with_config config task) remaining old new
 
   -- the choice makes a model, with which the task was refused
   pub record StopsTask (fault : Fault) : Type 0 where
     pub model : C
-    pub made : Makes chosen (Some model)
-    pub ends : TaskEnds (meaning model).handlers task remaining old new fault
+    pub config : Config
+    pub made : Makes chosen (task_config task) (Ok (model, config))
+    pub ends : TaskEnds (meaning model).handlers (with_config config task) remaining old new fault
 
-  -- the choice makes no model, which the fault says, and nothing was read, and nothing was written
+  -- there is no model: memory was refused, or the choice makes none, and the fault names the option for which. Nothing was read, and
+  -- nothing was written
   pub record MakesNoModel (fault : Fault) : Type 0 where
-    pub refused : Makes chosen None
-    pub named : option_named fault ≡ Some (codes "values")
+    pub why : (fault ≡ Memory) ⊎ ((bad : Text) × Makes chosen (task_config task) (Err bad) × (option_named fault ≡ Some bad))
     pub unread : Keeps remaining left
     pub kept : Keeps old new
 
@@ -71,17 +80,17 @@ module _ {C : Type 0} (meaning : C → AnyHandlers) (Makes : Chosen → Option C
     pub err : IfErr answer (λ fault. StopsTask fault ⊎ MakesNoModel fault)
     pub unread : KeepsInput task remaining left
 
--- models with these handlers, which a choice may make, or nothing, under a name and with tables of options
-module _ {C : Type 0} (meaning : C → AnyHandlers) (Makes : Chosen → Option C → Type 0) (name : Text) (models : Models) where
+-- models with these handlers, which may be made of a choice and a config, or nothing, under a name and with tables of options
+module _ {C : Type 0} (meaning : C → AnyHandlers) (Makes : Chosen → Config → Making C → Type 0) (name : Text) (models : Models) where
   -- the words ask for this run, and their choice makes its model
   pub record AskRunOf (words : List Text) (r : RunOf C) : Type 0 where
-    pub asked : AskRunWith name models words r.settings r.chosen.model r.chosen.values.items
-    pub made : Makes r.chosen (Some r.model)
+    pub asked : AskTaskWith name models words (Run r.settings) r.chosen
+    pub made : Makes r.chosen r.settings.config (Ok (r.model, r.config))
 
   -- the words ask for this replay, and their choice makes its model
   pub record AskReplayOf (words : List Text) (r : ReplayOf C) : Type 0 where
-    pub asked : AskReplayWith name models words r.settings r.chosen.model r.chosen.values.items
-    pub made : Makes r.chosen (Some r.model)
+    pub asked : AskTaskWith name models words (Replay r.settings) r.chosen
+    pub made : Makes r.chosen r.settings.config (Ok (r.model, r.config))
 
   -- the program of these models
   abbrev pub program_of : Program
@@ -92,22 +101,24 @@ module _ {C : Type 0} (meaning : C → AnyHandlers) (Makes : Chosen → Option C
     AskRun = AskRunOf;
     AskReplay = AskReplayOf;
     synch_of = λ r. r.settings.synch;
-    workers_of = λ r. r.settings.config.workers;
-    text_of = λ r. run_text r.settings.text (meaning r.model).handlers r.settings.config;
-    text_below = λ r time. text_below r.settings.text (meaning r.model).handlers r.settings.config time;
-    Passes = λ r. PassesInRun (meaning r.model).handlers r.settings.config;
-    config_of = λ r. r.settings.config;
-    IsOutput = λ r steps text. IsReplayOf r.settings.text (meaning r.model).handlers r.settings.config r.settings.serial steps text;
-    AreLines = λ r steps text. AreRepliesOf (meaning r.model).handlers r.settings.config r.settings.serial steps text;
-    OpensLate = λ r. PassesAtStart (simulation_of (meaning r.model).handlers r.settings.config) r.settings.serial;
+    workers_of = λ r. r.config.workers;
+    text_of = λ r. run_text r.settings.text (meaning r.model).handlers r.config;
+    text_below = λ r time. text_below r.settings.text (meaning r.model).handlers r.config time;
+    Passes = λ r. PassesInRun (meaning r.model).handlers r.config;
+    config_of = λ r. r.config;
+    IsOutput = λ r steps text. IsReplayOf r.settings.text (meaning r.model).handlers r.config r.settings.serial steps text;
+    AreLines = λ r steps text. AreRepliesOf (meaning r.model).handlers r.config r.settings.serial steps text;
+    OpensLate = λ r. PassesAtStart (simulation_of (meaning r.model).handlers r.config) r.settings.serial;
   }
 
-  -- the words ask for a run or a replay, their choice makes no model, which the fault says, and nothing was written
-  pub record RefusesValues (words : List Text) (fault : Fault) (old new : Option (List ℕ)) : Type 0 where
+  -- the words ask for a run or a replay, their choice makes no model, for the option that the fault names, and nothing was written
+  pub record RefusesChoice (words : List Text) (fault : Fault) (old new : Option (List ℕ)) : Type 0 where
     pub chosen : Chosen
-    pub asked : AskWith name models words chosen
-    pub refused : Makes chosen None
-    pub named : option_named fault ≡ Some (codes "values")
+    pub task : Task
+    pub asked : AskTaskWith name models words task chosen
+    pub bad : Text
+    pub refused : Makes chosen (task_config task) (Err bad)
+    pub named : option_named fault ≡ Some bad
     pub kept : Keeps old new
 
   -- what the words ask for was done
@@ -116,7 +127,7 @@ module _ {C : Type 0} (meaning : C → AnyHandlers) (Makes : Chosen → Option C
 
   -- what was done where it ended with a refusal
   abbrev pub EndsFor : Fault → List Text → Option (List ℕ) → Option (List ℕ) → Option (List ℕ) → Type 0
-  EndsFor fault words remaining old new = EndsWith program_of words fault remaining old new ⊎ RefusesValues words fault old new
+  EndsFor fault words remaining old new = EndsWith program_of words fault remaining old new ⊎ RefusesChoice words fault old new
 
   -- the reader was kept, or the words ask for a replay
   abbrev pub IsReadFor : List Text → Option (List ℕ) → Option (List ℕ) → Type 0

@@ -9,8 +9,6 @@ use Rattle.vt_model.specs.declared.settings.Config.{Config}
 use Rattle.vt_text.specs.Writing.{AppendsBeginning}
 use Rattle.vt_options.specs.declared.choices.Synch.{Synch}
 use Rattle.vt_options.specs.declared.choices.Synch.TheVariants.{Sequential, Optimistic}
-use Rattle.vt_options.specs.Line.{given_by}
-use Rattle.vt_options.specs.Settings.{GiveConfig}
 use Rattle.vt_options.specs.Requests.{Line, AreBy, AskHelpOf, IsRefusedAsOf}
 use Rattle.vt_tasks.specs.Runs.{WritesBelow, WritesBeginning}
 use Rattle.vt_step_text.specs.declared.reading.NumberedStep.{NumberedStep}
@@ -36,9 +34,8 @@ pub record Program : Type 1 where
 
 -- what the words ask for is what its command line says
 pub record IsAskedByLine (p : Program) : Type 0 where
-  pub run : (words : List Text) (r : p.Run) → p.AskRun words r → AreBy p.line.app (codes "run") words × (p.line.bad_of_run (given_by p.line.app words) ≡ None)
-  pub replay : (words : List Text) (r : p.Replay) → p.AskReplay words r → AreBy p.line.app (codes "replay") words × (p.line.bad_of_replay (given_by p.line.app words) ≡ None)
-  pub config : (words : List Text) (r : p.Replay) → p.AskReplay words r → GiveConfig (given_by p.line.app words) (p.config_of r)
+  pub run : (words : List Text) (r : p.Run) → p.AskRun words r → AreBy p.line.app (codes "run") words × (p.line.bad_of_run words ≡ None)
+  pub replay : (words : List Text) (r : p.Replay) → p.AskReplay words r → AreBy p.line.app (codes "replay") words × (p.line.bad_of_replay words ≡ None)
 
 module _ (app : App) (words : List Text) (old new : Option (List ℕ)) where
   -- the words ask for help, and a text was written
@@ -156,11 +153,10 @@ module _ (p : Program) (words : List Text) where
   abbrev pub IsReadBy : Option (List ℕ) → Option (List ℕ) → Type 0
   IsReadBy remaining left = Keeps remaining left ⊎ ((r : p.Replay) × p.AskReplay words r)
 
-  -- the words ask for a replay, and the reader tells bytes that are a step text with a bad line
+  -- the words ask for a replay, and whichever they ask for, the reader tells bytes that are a step text with a bad line
   pub record AskBadLine (remaining : Option (List ℕ)) : Type 0 where
     pub options : p.Replay
     pub asked : p.AskReplay words options
     pub text : List ℕ
     pub told : remaining ≡ Some text
-    pub line : ℕ
-    pub said : steps_of (p.config_of options).lps (p.config_of options).workers text ≡ Err line
+    pub bad : (r : p.Replay) → p.AskReplay words r → (line : ℕ) × (steps_of (p.config_of r).lps (p.config_of r).workers text ≡ Err line)

@@ -35,7 +35,7 @@ module _ (name : Text) (models : Models) (words : List Text) where
   -- the words ask for this task with this choice. Its serials begin within their limit, and each option of the model has a value in
   -- its range
   pub record IsTaskOf (chosen : Chosen) (task : Task) : Type 0 where
-    pub asked : AskTaskWith name models words task chosen.model chosen.values.items
+    pub asked : AskTaskWith name models words task chosen
     pub counted : BeginsWithinLimit task
     pub complete : length chosen.values.items ≡ length (get_or models.tables chosen.model [])
     pub within : AreInRange (get_or models.tables chosen.model []) chosen.values.items
@@ -46,7 +46,7 @@ module _ (name : Text) (models : Models) (words : List Text) where
     pub record IsTaskAnswered (answer : Result ⊤ Fault) : Type 0 where
       pub chosen : Chosen
       pub task : Task
-      pub asked : AskTaskWith name models words task chosen.model chosen.values.items
+      pub asked : AskTaskWith name models words task chosen
       pub answered : Answers chosen task answer
 
     -- what the words ask for was done

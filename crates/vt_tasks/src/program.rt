@@ -23,7 +23,7 @@ fn answer<
     O: Write,
     W,
     A: Into<Result<(), Fault>>,
-    F: FnOnce(&H, Global, &Chosen, &Task, &W, &mut R, &mut O) -> A,
+    F: FnOnce(&H, Global, &Chosen<'_>, &Task, &W, &mut R, &mut O) -> A,
 >(
     rt: &H,
     alloc: Global,
@@ -75,7 +75,7 @@ pub fn models_program<
     E: Write,
     W,
     A: Into<Result<(), Fault>>,
-    F: FnOnce(&H, Global, &Chosen, &Task, &W, &mut R, &mut O) -> A,
+    F: FnOnce(&H, Global, &Chosen<'_>, &Task, &W, &mut R, &mut O) -> A,
 >(
     rt: &H,
     alloc: Global,

@@ -6,7 +6,7 @@ use Rattle.vt_tasks.specs.Programs.{IsTaskOf}
 use Rattle.vt_tasks.specs.Refusals.{TellsRefusalOf}
 use Rattle.vt_tasks.proofs.ModelsLemmas.{task_given}
 use Rattle.vt_tasks.proofs.ProgramLemmas.{carried, EndsAs, ends_as, untouched, unrun}
-use Rattle.vt_program.specs.Models.{meaning_of, IsMadeOf}
+use Rattle.vt_program.specs.Models.{meaning_of, Makes}
 use Rattle.vt_program.specs.Refusals.{TellsRefusal}
 use Rattle.vt_program.proofs.OutcomeLemmas.{ends_by, at_twarp}
 use Rattle.vt_program.proofs.program.Given.{Over}
@@ -17,11 +17,11 @@ models_program-requires-clause-callable g c =
     let words = map g.S.AsStr.text c.args.words.now in
     λ host memory chosen task watcher input output is.
     let task_is = at_twarp (λ name table. IsTaskOf name table words chosen.now task.now) c.texts.ensures c.model_table.ensures.table is in
-    ((task_is.counted, record { texts = given_in words; given = task_given (codes "twarp") twarp_models words task.now _ _ task_is.asked }), (record { shared = c.type_bounds.sync-H.shared }, record { shared = c.type_bounds.sync-W.shared }))
+    ((task_is.counted, record { texts = given_in words; given = task_given (codes "twarp") twarp_models words task.now chosen.now task_is.asked }), (record { shared = c.type_bounds.sync-H.shared }, record { shared = c.type_bounds.sync-W.shared }))
 
 -- the status says what was done
 ended : (g : Over) (c : goal.After-models_program g)
-    → EndsAs meaning_of IsMadeOf (codes "twarp") twarp_models (map g.S.AsStr.text c.args.words.now) (g.R.Read.remaining c.args.reader.now) (g.R.Read.remaining c.models_program.new.reader) (g.O.Write.contents c.args.out.now) (g.O.Write.contents c.models_program.new.out)
+    → EndsAs meaning_of Makes (codes "twarp") twarp_models (map g.S.AsStr.text c.args.words.now) (g.R.Read.remaining c.args.reader.now) (g.R.Read.remaining c.models_program.new.reader) (g.O.Write.contents c.args.out.now) (g.O.Write.contents c.models_program.new.out)
     c.models_program.result (λ fault. TellsRefusal fault (g.E.Write.contents c.args.err.now) (g.E.Write.contents c.models_program.new.err))
 ended g c =
     let words = map g.S.AsStr.text c.args.words.now in
@@ -31,9 +31,9 @@ ended g c =
     let left = g.R.Read.remaining c.models_program.new.reader in
     let old = g.O.Write.contents c.args.out.now in
     let new = g.O.Write.contents c.models_program.new.out in
-    at_twarp (λ n t. EndsAs meaning_of IsMadeOf n t words input left old new c.models_program.result (λ fault. TellsRefusalOf n fault (g.E.Write.contents c.args.err.now) (g.E.Write.contents c.models_program.new.err))) c.texts.ensures c.model_table.ensures.table
-    (ends_as meaning_of IsMadeOf name table words input left old new _ _ _ c.models_program.ensures.done c.models_program.ensures.refused c.models_program.ensures.read
-    (λ chosen task answer h. carried meaning_of IsMadeOf g.R.Read.remaining g.O.Write.contents h (λ at_rt at_alloc at_chosen at_task at_watch at_reader at_out given left_reader left_out met. search rules)))
+    at_twarp (λ n t. EndsAs meaning_of Makes n t words input left old new c.models_program.result (λ fault. TellsRefusalOf n fault (g.E.Write.contents c.args.err.now) (g.E.Write.contents c.models_program.new.err))) c.texts.ensures c.model_table.ensures.table
+    (ends_as meaning_of Makes name table words input left old new _ _ _ c.models_program.ensures.done c.models_program.ensures.refused c.models_program.ensures.read
+    (λ chosen task answer h. carried meaning_of Makes g.R.Read.remaining g.O.Write.contents h (λ at_rt at_alloc at_chosen at_task at_watch at_reader at_out given left_reader left_out met. search rules)))
 
 pub returns-clause-done : goal.returns-clause-done
 returns-clause-done g c = (ended g c).done

@@ -23,11 +23,9 @@ const REPLAY: &str =
     --population=6 --rise=8 --delay=7 --stride 3 --hops=9 --seed 258 --end=64 --lps 12 --workers=4 \
     --serial=5";
 
-/// The task and the choices that a line with one more word asks for.
-fn asked(alloc: Global, line: &str, more: &str) -> Result<(Task, Chosen), Fail> {
-    let mut words: Vec<&str> = line.split_ascii_whitespace().collect(alloc)?;
-    words.push(more)?;
-    match read_request(alloc, words.as_slice())? {
+/// The task and the choices that words ask for.
+fn asked<'a>(alloc: Global, words: &'a [&'a str]) -> Result<(Task, Chosen<'a>), Fail> {
+    match read_request(alloc, words)? {
         Request::Task(task, chosen) => Ok((task, chosen)),
         Request::Help(_) => Err(Fail::from(Fault::NotLawful)),
     }
@@ -61,7 +59,9 @@ fn chooses(
     model: usize,
     values: &[u32],
 ) -> Result<(), Fail> {
-    let (task, chosen) = asked(rt.alloc(), line, more)?;
+    let mut words: Vec<&str> = line.split_ascii_whitespace().collect(rt.alloc())?;
+    words.push(more)?;
+    let (task, chosen) = asked(rt.alloc(), words.as_slice())?;
     let is_chosen = chosen.model == model && chosen.values.as_slice() == values;
     assert!(rt; is_given(task)? && is_chosen, "{more}");
     Ok(())

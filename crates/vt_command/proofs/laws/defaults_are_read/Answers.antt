@@ -1,4 +1,4 @@
-use Rattle.std.proofs.Common.{refl}
+use Rattle.std.proofs.Common.{inr, refl}
 use Rattle.clap.proofs.OnLiterals.{clap_on_literals}
 use Rattle.vt_command.proofs.laws.defaults_are_read.Goals as goal
 
@@ -10,6 +10,7 @@ returns c = record {
     options = record {
       settings = record { synch = refl; config = record { workers = refl; lps = refl; end = refl; seed = refl }; turns = refl; text = refl };
       model = record { chosen = refl; values = refl; within = (refl, (refl, (refl, (refl, tt)))) };
+      program = inr refl;
       all_good = refl;
     };
   };
@@ -18,6 +19,7 @@ returns c = record {
     options = record {
       settings = record { synch = refl; config = record { workers = refl; lps = refl; end = refl; seed = refl }; turns = refl; text = refl };
       model = record { chosen = refl; values = refl; within = (refl, (refl, (refl, (refl, tt)))) };
+      program = inr refl;
       all_good = refl;
     };
   };
@@ -26,6 +28,7 @@ returns c = record {
     options = record {
       settings = record { synch = refl; config = record { workers = refl; lps = refl; end = refl; seed = refl }; turns = refl; text = refl };
       model = record { chosen = refl; values = refl; within = (refl, (refl, (refl, (refl, tt)))) };
+      program = inr refl;
       all_good = refl;
     };
   };
@@ -34,6 +37,7 @@ returns c = record {
     options = record {
       settings = record { synch = refl; config = record { workers = refl; lps = refl; end = refl; seed = refl }; turns = refl; text = refl };
       model = record { chosen = refl; values = refl; within = (refl, (refl, (refl, tt))) };
+      program = inr refl;
       all_good = refl;
     };
   };
@@ -42,6 +46,7 @@ returns c = record {
     options = record {
       settings = record { config = record { workers = refl; lps = refl; end = refl; seed = refl }; serial = refl; text = refl };
       model = record { chosen = refl; values = refl; within = (refl, (refl, (refl, (refl, tt)))) };
+      program = inr refl;
       all_good = refl;
     };
   };
@@ -50,6 +55,7 @@ returns c = record {
     options = record {
       settings = record { config = record { workers = refl; lps = refl; end = refl; seed = refl }; serial = refl; text = refl };
       model = record { chosen = refl; values = refl; within = (refl, (refl, (refl, tt))) };
+      program = inr refl;
       all_good = refl;
     };
   };

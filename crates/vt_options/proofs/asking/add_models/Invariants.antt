@@ -1,8 +1,8 @@
-use Rattle.std.proofs.Common.{◌≡◌, ◌++◌, take}
-use Rattle.vt_options.specs.Line.{names_of}
+use Rattle.std.proofs.Common.{◌≡◌, ◌++◌, map, take}
+use Rattle.vt_options.specs.Line.{once, options_of}
 use Rattle.vt_options.specs.Own.{table_names, tables_of}
 use Rattle.vt_options.proofs.asking.add_models.Given as goal
 
 -- the options of the models so far were added
 abbrev pub invariant-loop-model : goal.invariant-loop-model
-invariant-loop-model l = names_of l.list.items ≡ names_of l.fn.list.items ++ table_names (tables_of (take l.model-index l.models))
+invariant-loop-model l = options_of l.list.items ≡ options_of l.fn.list.items ++ map once (table_names (tables_of (take l.model-index l.models)))

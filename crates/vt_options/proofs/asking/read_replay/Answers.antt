@@ -15,3 +15,6 @@ returns-in_err-serial-clause-ok c = if_refused _ _ c.from_residual-in_err-serial
 
 pub returns-in_err-text-clause-ok : goal.returns-in_err-text-clause-ok
 returns-in_err-text-clause-ok c = if_refused _ _ c.from_residual-in_err-text.result c.from_residual-in_err-text.ensures.1
+
+pub returns-in_err-program-clause-ok : goal.returns-in_err-program-clause-ok
+returns-in_err-program-clause-ok c = if_refused _ _ c.from_residual-in_err-program.result c.from_residual-in_err-program.ensures.1

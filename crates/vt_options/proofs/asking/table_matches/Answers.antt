@@ -1,14 +1,14 @@
 use Rattle.std.proofs.Common.{◌≡◌, ◌∙◌, [], IfOk, IfErr, ap, ap₂, map, subst}
 use Rattle.clap.specs.Words.{App, HasKind, fault_of, subcommand_of, subcommand_rows_of}
-use Rattle.vt_options.specs.Line.{names_of, program_app}
+use Rattle.vt_options.specs.Line.{options_of, program_app}
 use Rattle.vt_options.specs.Own.{app_for, models_of}
 use Rattle.vt_options.proofs.asking.table_matches.Given.{Over}
 use Rattle.vt_options.proofs.asking.table_matches.Goals.{After-matches_in}
 use Rattle.vt_options.proofs.asking.table_matches.Goals as goal
 
 -- the parser that the words are given to is that of the program
-of_program : (g : Over) (c : After-matches_in g) → program_app c.args.texts.now.name.now (names_of c.as_slice.result.now) (names_of c.as_slice-2.result.now) ≡ app_for c.args.texts.now.name.now (models_of c.args.table.now)
-of_program g c = ap₂ (program_app c.args.texts.now.name.now) (ap names_of c.as_slice.ensures.value ∙ c.in_ok-run.ensures) (ap names_of c.as_slice-2.ensures.value ∙ c.in_ok-replay.ensures)
+of_program : (g : Over) (c : After-matches_in g) → program_app c.args.texts.now.name.now (options_of c.as_slice.result.now) (options_of c.as_slice-2.result.now) ≡ app_for c.args.texts.now.name.now (models_of c.args.table.now)
+of_program g c = ap₂ (program_app c.args.texts.now.name.now) (ap options_of c.as_slice.ensures.value ∙ c.in_ok-run.ensures) (ap options_of c.as_slice-2.ensures.value ∙ c.in_ok-replay.ensures)
 
 pub returns-clause-ok : goal.returns-clause-ok
 returns-clause-ok g c =

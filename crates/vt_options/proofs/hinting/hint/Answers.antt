@@ -1,9 +1,11 @@
-use Rattle.std.proofs.Common.{◌∙◌, ap, sym, inl, inr, None, map, option_map, subst}
+use Rattle.std.proofs.Common.{◌≡◌, ◌⊎◌, ◌∙◌, sym, inl, inr, Some, None, codes, map, subst}
 use Rattle.std.proofs.lemmas.Option.{IfSome_then}
 use Rattle.vt_key.specs.declared.fault.Fault.{Fault}
+use Rattle.vt_options.specs.Line.{given_by, texts_by}
+use Rattle.vt_options.specs.Programs.{SetsNothing}
 use Rattle.vt_options.specs.Own.{app_for, line_for, models_of}
 use Rattle.vt_options.specs.Requests.{IsRefusedByOf, IsRefusedAsOf}
-use Rattle.vt_options.proofs.RequestLemmas.{given_is, met}
+use Rattle.vt_options.proofs.RequestLemmas.{given_is, met, texts_are}
 use Rattle.vt_options.proofs.hinting.hint.Given.{Over}
 use Rattle.vt_options.proofs.hinting.hint.Goals.{After-table_matches}
 use Rattle.vt_options.proofs.hinting.hint.Goals as goal
@@ -29,7 +31,12 @@ returns g c =
     let words = map g.S.AsStr.text c.args.words.now in
     let name = c.in-Err-BadOption.name.now in
     let app = app_for c.args.texts.now.name.now (models_of c.args.table.now) in
-    let given = sym (given_is app words c.in-Ok.matches c.in-Some.inner.now c.in-Ok.ensures.ok c.in-Some.ensures.rows name) ∙ sym c.get_str.ensures ∙ ap (option_map (λ s. s.now)) c.in_ok-word.was in
+    let word = c.in_ok-word.word.now in
+    let texts = texts_by app words (codes "set") in
+    let given : (given_by app words name ≡ Some word) ⊎ ((name ≡ codes "set") × SetsNothing texts word) = elim c.in_ok-word.ensures [
+      | inl first ↦ inl (sym (given_is app words c.in-Ok.matches c.in-Some.inner.now c.in-Ok.ensures.ok c.in-Some.ensures.rows name) ∙ first)
+      | inr set ↦ inr (set.0, subst (λ l. SetsNothing l word) (texts_are app words c.in-Ok.matches c.in-Some.inner.now c.in-Ok.ensures.ok c.in-Some.ensures.rows (codes "set")) set.1)
+    ] in
     IfSome_then c.hint_on_option.result c.hint_on_option.ensures (λ line is. record {
       name = name;
       refused = refused g (goal.at.returns g c).After-table_matches;

@@ -1,12 +1,12 @@
 use Rattle.std.proofs.Common.{◌≡◌, false, take, map}
 use Rattle.clap.specs.Words.{app_of, new_app}
 use Rattle.clap.specs.declared.builder.command.Command.TheViews.{out-Command}
-use Rattle.vt_options.specs.Line.{with_options}
+use Rattle.vt_options.specs.Line.{option_of, with_options}
 use Rattle.vt_options.proofs.line.command_of.Given as goal
 
 -- the command with the options so far
-abbrev pub invariant-loop-text : goal.invariant-loop-text
-invariant-loop-text l = record {
-  app : app_of l.command ≡ with_options (new_app l.name) (map (λ o. o.name.now) (take l.text-index l.options));
+abbrev pub invariant-loop-taken : goal.invariant-loop-taken
+invariant-loop-taken l = record {
+  app : app_of l.command ≡ with_options (new_app l.name) (map option_of (take l.taken-index l.options));
   local : (out-Command l.command).has_globals ≡ false;
 }
