@@ -62,6 +62,21 @@ fn add_naming(list: &mut Vec<LineOption>, table: &ModelTable<'_>) -> Result<(), 
     Ok(())
 }
 
+/// What help shows of an option of a model.
+fn own_text(heading: &'static str, option: &OwnOption) -> OptionText
+    ensures name { result.name.now ≡ option.now.name.now }
+    ensures heading { result.heading.now ≡ heading.now }
+    ensures help { result.help.now ≡ option.now.help.now }
+{
+    OptionText {
+        name: option.name,
+        value: "N",
+        heading,
+        takes: "",
+        help: option.help,
+    }
+}
+
 /// Adds the options of a model to a list.
 fn add_own(
     list: &mut Vec<LineOption>,
@@ -71,13 +86,7 @@ fn add_own(
     ensures { IfOk result (λ _. options_of list.new.items ≡ options_of list.old.items ++ map once (map (λ o. o.name) (number_table own.now))) }
 {
     for option in own {
-        list.push(once(OptionText {
-            name: option.name,
-            value: "N",
-            heading,
-            takes: "",
-            help: option.help,
-        }))?;
+        list.push(once(own_text(heading, option)))?;
     }
     Ok(())
 }
