@@ -210,9 +210,11 @@ class Program:
         for at in range(programs, programs + 56 * count, 56):
             kind, flags, offset, place, _, file_size, size = struct.unpack_from("<IIQQQQQ", file, at)
             data = file[offset : offset + file_size] + bytes(size - file_size)
-            if kind == 1 and flags & 2:
+            if kind != 1 or size == 0:
+                continue
+            if flags & 2:
                 self.first += bytes(place - STATE - len(self.first)) + data
-            elif kind == 1:
+            else:
                 self.image += bytes(place - IMAGE - len(self.image)) + data
                 self.code_size = len(self.image) if flags & 1 else self.code_size
         self.first = self.first.ljust(next(it for it in CLASSES if len(self.first) <= it), b"\0")
