@@ -3,7 +3,7 @@
 
 use std::process::ExitCode;
 use vt_meter::Terminal;
-use vt_program::{hint, program, tell_refusal, words_of};
+use vt_program::{MachineFiles, hint, program, tell_refusal, words_of};
 
 /// Where standard error is a terminal, a long run shows there how far it is, and a refused command line what is allowed.
 fn main(rt: HostRuntime) -> ExitCode {
@@ -14,6 +14,7 @@ fn main(rt: HostRuntime) -> ExitCode {
         Ok(words) => words,
         Err(fault) => return ExitCode::from(tell_refusal(&mut err, fault)),
     };
+    let files = MachineFiles::new(&rt);
     let status = terminal.during(
         &rt,
         rt.alloc(),
@@ -24,9 +25,10 @@ fn main(rt: HostRuntime) -> ExitCode {
             &mut rt.stdin(),
             &mut out,
             &mut err,
+            &files,
             terminal.meter(),
         ),
     );
-    terminal.hint(status, || hint(rt.alloc(), words.as_slice()));
+    terminal.hint(status, || hint(rt.alloc(), words.as_slice(), &files));
     ExitCode::from(status)
 }

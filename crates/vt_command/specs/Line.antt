@@ -1,7 +1,7 @@
 -- The command line.
 use Rattle.std.specs.Prelude.{List, ◌∷◌, ◌++◌, map, codes, Option}
 use Rattle.clap.specs.Words.{App, Text}
-use Rattle.vt_options.specs.Line.{given_by}
+use Rattle.vt_options.specs.Line.{given_by, texts_by}
 use Rattle.vt_options.specs.Own.{run_names, replay_names, app_for}
 use Rattle.vt_command.specs.Table.{twarp_models}
 
@@ -20,6 +20,10 @@ twarp_app = app_for (codes "twarp") twarp_models
 -- the text that the words give to an option
 abbrev pub given_in : List Text → Text → Option Text
 given_in words name = given_by twarp_app words name
+
+-- all texts that the words give to an option
+abbrev pub all_given_in : List Text → Text → List Text
+all_given_in words name = texts_by twarp_app words name
 
 -- a line of a subcommand that gives each of its options a text behind `=`
 abbrev pub line_with : Text → List Text → (Text → Text) → List Text

@@ -1,5 +1,5 @@
 -- The table of the models and their options: what each may be, and what it is where it isn't given.
-use Rattle.std.specs.Prelude.{List, [], ◌∷◌, Some, false, codes}
+use Rattle.std.specs.Prelude.{List, [], ◌∷◌, Some, true, codes}
 use Rattle.vt_models.specs.declared.hop.TheConstants.{MAX_HOPS, MAX_STRIDE, MAX_DELAY, MAX_RISE}
 use Rattle.vt_models.specs.declared.phold.TheConstants.{MAX_POPULATION, MAX_REMOTE, MAX_LOOKAHEAD, MAX_SPAN}
 use Rattle.vt_models.specs.declared.stations.TheConstants.{MAX_JOBS, MAX_SERVICE, MAX_TRAVEL}
@@ -50,10 +50,10 @@ phold_table = population ∷ remote ∷ lookahead ∷ span ∷ []
 abbrev pub stations_table : List NumberOption
 stations_table = jobs ∷ service ∷ travel ∷ []
 
--- the models: `hop` where none is named
+-- the models: `hop` where none is named. A program may take their place
 abbrev pub twarp_models : Models
 twarp_models = record {
   naming = Some (record { option = codes "model"; names = codes "hop" ∷ codes "phold" ∷ codes "stations" ∷ [] });
   tables = hop_table ∷ phold_table ∷ stations_table ∷ [];
-  programs = false;
+  programs = true;
 }

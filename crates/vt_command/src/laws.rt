@@ -2,7 +2,7 @@
 
 ghost use Rattle.std.specs.Prelude.{◌≡◌, [], ◌∷◌, ◌++◌, Some, None, codes, map};
 ghost use Rattle.clap.specs.Words.{Text};
-ghost use Rattle.vt_command.specs.Line.{given_in, run_options, replay_options, line_with};
+ghost use Rattle.vt_command.specs.Line.{all_given_in, given_in, run_options, replay_options, line_with};
 ghost use Rattle.vt_command.specs.Requests.{AreOfRun, AreOfReplay, AskHelp, AskRun, AskReplay, HasBadOption, HasNoMeaning};
 ghost use Rattle.vt_command.specs.Defaults.{default_settings, default_replay_settings, default_hop, default_phold, default_stations};
 
@@ -66,4 +66,18 @@ pub fn first_bad_is_of_the_table()
     ensures text { HasBadOption (codes "twarp" ∷ codes "run" ∷ codes "--text" ∷ codes "3" ∷ []) (codes "text") }
     ensures before_text { HasBadOption (codes "twarp" ∷ codes "run" ∷ codes "--text" ∷ codes "0" ∷ codes "--turns" ∷ codes "0" ∷ []) (codes "turns") }
     ensures text_of_replay { HasBadOption (codes "twarp" ∷ codes "replay" ∷ codes "--text" ∷ codes "x" ∷ codes "--serial" ∷ codes "x" ∷ []) (codes "serial") }
+{}
+
+/// `--set` may be given any number of times, and each of its texts counts. A program's options are tested behind all others.
+pub fn programs_are_read()
+    ensures sets { all_given_in (codes "twarp" ∷ codes "run" ∷ codes "--set" ∷ codes "a=1" ∷ codes "--program" ∷ codes "m.elf" ∷ codes "--set=b=2" ∷ []) (codes "set") ≡ codes "a=1" ∷ codes "b=2" ∷ [] }
+    ensures none { all_given_in (codes "twarp" ∷ codes "run" ∷ []) (codes "set") ≡ [] }
+    ensures model { HasBadOption (codes "twarp" ∷ codes "run" ∷ codes "--program=m.elf" ∷ codes "--model=hop" ∷ []) (codes "program") }
+    ensures second_set { HasBadOption (codes "twarp" ∷ codes "run" ∷ codes "--set=a=1" ∷ codes "--set=b" ∷ []) (codes "set") }
+    ensures nameless { HasBadOption (codes "twarp" ∷ codes "replay" ∷ codes "--set==1" ∷ []) (codes "set") }
+    ensures too_large { HasBadOption (codes "twarp" ∷ codes "run" ∷ codes "--set=a=18446744073709551616" ∷ []) (codes "set") }
+    ensures fuel { HasBadOption (codes "twarp" ∷ codes "replay" ∷ codes "--fuel=4294967297" ∷ []) (codes "fuel") }
+    ensures program_first { HasBadOption (codes "twarp" ∷ codes "run" ∷ codes "--fuel=0" ∷ codes "--set=a" ∷ codes "--model=hop" ∷ codes "--program=m.elf" ∷ []) (codes "program") }
+    ensures set_before_fuel { HasBadOption (codes "twarp" ∷ codes "run" ∷ codes "--fuel=0" ∷ codes "--set=a" ∷ []) (codes "set") }
+    ensures text_before { HasBadOption (codes "twarp" ∷ codes "run" ∷ codes "--program=m.elf" ∷ codes "--model=hop" ∷ codes "--text=3" ∷ []) (codes "text") }
 {}

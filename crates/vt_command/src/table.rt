@@ -23,6 +23,8 @@ Options with ranges and defaults (twarp run --help and twarp replay --help say w
   phold        --population 0..16 [1]  --remote 0..100 [0]  --lookahead 1..1000000 [1]
                --span 1..1000000 [1]
   stations     --jobs 0..1000 [1]  --service 1..1000000 [1]  --travel 1..1000000 [1]
+  a program    --program FILE (in the place of --model)  --set NAME=VALUE (any number of times)
+               --data FILE  --fuel 1..4294967296 [1000000]
   run alone    --synch 1|3 [1]  --turns 1..9223372036854775808 [10000000]
   replay alone --serial 0..9223372036854775808 [0]";
 
@@ -142,7 +144,7 @@ pub(crate) static MODELS: ModelTable<'static> = ModelTable {
             ],
         },
     ],
-    programs: false,
+    programs: true,
 };
 
 /// What the help of `twarp` shows of it.
@@ -152,7 +154,8 @@ pub fn texts() -> &'static ProgramTexts
     &TEXTS
 }
 
-/// The models of `twarp` with their options: `hop`, which is meant where none is named, `phold` and `stations`.
+/// The models of `twarp` with their options: `hop`, which is meant where none is named, `phold` and `stations`. The file of a program
+/// may take their place.
 pub fn model_table() -> &'static ModelTable<'static>
     ensures table { models_of result.now ≡ twarp_models }
     ensures defaults { AllHaveDefaults result.now.models.now }

@@ -1,2 +1,4 @@
 pub mod OutcomeLemmas
 pub mod ModelLemmas
+pub mod TaskLemmas
+pub mod ProgramLemmas

@@ -1,3 +1,6 @@
 pub mod Refusals
+pub mod Programs
+pub mod Guests
 pub mod Models
 pub mod Outcomes
+pub mod Hints

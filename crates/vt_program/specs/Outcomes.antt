@@ -3,26 +3,28 @@ use Rattle.std.specs.Prelude.{ℕ, List, Option, codes}
 use Rattle.clap.specs.Words.{Text}
 use Rattle.vt_key.specs.declared.fault.Fault.{Fault}
 use Rattle.vt_command.specs.Table.{twarp_models}
-use Rattle.vt_tasks.specs.Outcomes.{Program, IsDoneBy, EndsWith, IsReadBy, AskBadLine}
-use Rattle.vt_tasks.specs.Models.{program_of}
+use Rattle.vt_tasks.specs.Outcomes.{Program, IsDoneBy, IsReadBy, AskBadLine}
+use Rattle.vt_tasks.specs.Models.{EndsFor, program_of}
 use Rattle.vt_program.specs.Models.{meaning_of, Makes}
+use Rattle.vt_program.specs.Programs.{Told}
 
--- the program of the three models
-abbrev pub twarp : Program
-twarp = program_of meaning_of Makes (codes "twarp") twarp_models
+-- the program of the three models and of programs in their place, by what is known of files
+abbrev pub twarp : Told → Program
+twarp told = program_of meaning_of (Makes told) (codes "twarp") twarp_models
 
--- what the words ask for was done
-abbrev pub IsDoneByTwarp : List Text → Option (List ℕ) → Option (List ℕ) → Option (List ℕ) → Type 0
-IsDoneByTwarp words remaining old new = IsDoneBy twarp words remaining old new
+module _ (told : Told) where
+  -- what the words ask for was done
+  abbrev pub IsDoneByTwarp : List Text → Option (List ℕ) → Option (List ℕ) → Option (List ℕ) → Type 0
+  IsDoneByTwarp words remaining old new = IsDoneBy (twarp told) words remaining old new
 
--- what was done where it ended with a refusal
-abbrev pub EndsBy : Fault → List Text → Option (List ℕ) → Option (List ℕ) → Option (List ℕ) → Type 0
-EndsBy fault words remaining old new = EndsWith twarp words fault remaining old new
+  -- what was done where it ended with a refusal
+  abbrev pub EndsBy : Fault → List Text → Option (List ℕ) → Option (List ℕ) → Option (List ℕ) → Type 0
+  EndsBy fault words remaining old new = EndsFor meaning_of (Makes told) (codes "twarp") twarp_models fault words remaining old new
 
--- the reader was kept, or the words ask for a replay
-abbrev pub IsRead : List Text → Option (List ℕ) → Option (List ℕ) → Type 0
-IsRead words remaining left = IsReadBy twarp words remaining left
+  -- the reader was kept, or the words ask for a replay
+  abbrev pub IsRead : List Text → Option (List ℕ) → Option (List ℕ) → Type 0
+  IsRead words remaining left = IsReadBy (twarp told) words remaining left
 
--- the words ask for a replay, and the reader tells bytes that are a step text with a bad line
-abbrev pub AskWithBadLine : List Text → Option (List ℕ) → Type 0
-AskWithBadLine words remaining = AskBadLine twarp words remaining
+  -- the words ask for a replay, and whichever they ask for, the reader tells bytes that are a step text with a bad line
+  abbrev pub AskWithBadLine : List Text → Option (List ℕ) → Type 0
+  AskWithBadLine words remaining = AskBadLine (twarp told) words remaining

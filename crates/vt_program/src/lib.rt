@@ -4,7 +4,10 @@
 //! whole program with writers of their own.
 #![tactic(auto)]
 
+mod files;
+mod hinting;
 mod models;
+mod programs;
 mod refusal;
 
 ghost use Rattle.std.specs.Prelude.{◌≡◌, ◌≢◌, map};
@@ -18,15 +21,17 @@ ghost use Rattle.vt_program.specs.Outcomes.{AskWithBadLine, IsDoneByTwarp, IsRea
 ghost use Rattle.vt_tasks.specs.Models.{CarriesOut};
 ghost use Rattle.vt_tasks.specs.Tasks.{BeginsWithinLimit};
 
+pub use files::{Files, MachineFiles, ReadFault};
+pub use hinting::hint;
 pub use models::TwarpModel;
-use models::{carry_out, model_of};
+use models::answer_task;
+pub use programs::{MAX_PROGRAM_FILE, ProgramRefusal};
 pub use refusal::tell_refusal;
 use std::alloc::Global;
 use std::convert::AsStr;
 use std::io::{Read, Write};
 use std::sync::Wait;
 use std::thread::Threads;
-pub use vt_command::hint;
 use vt_command::{model_table, texts};
 use vt_key::Fault;
 use vt_options::{Chosen, Task};
@@ -58,38 +63,49 @@ pub use vt_watch::{Progress, Unwatched, Watch};
 ///   written to `out`.
 /// - N = 7: the words or the input are refused, and nothing was written to `out`. TEXT names the first bad option in
 ///   the order of the table. It names `command-line` if the words have no meaning. It names `input` if a read failed
-///   or was interrupted, or if the input is longer than a step text may be.
+///   or was interrupted, or if the input is longer than a step text may be. Of a program in a model's place it names `program` if its
+///   file isn't read or isn't such a program, `data` if the file of its data isn't read, `set` if what is set isn't there or doesn't
+///   take the number, and `lps` if it fixes another number of processes than the words give.
 /// - N = 8: the step text has a bad line. TEXT names the first one. Nothing was run, and nothing was written to
 ///   `out`.
 /// - N = 9: `out` failed. A beginning of the text was written, but not all of it.
 ///
 /// The handle `rt` serves only for the threads of a run on workers. A replay reads `reader` to its end; nothing else
-/// reads it. `watch` is told how far a run is; no contract says what it is told.
-pub fn program<H: Threads + Wait + Sync, S: AsStr, R: Read, O: Write, E: Write, W: Watch + Sync>(
+/// reads it. `files` has the files that `--program` and `--data` name, and is asked for nothing else. `watch` is told how far a run is; no contract says what it is told.
+pub fn program<
+    H: Threads + Wait + Sync,
+    S: AsStr,
+    R: Read,
+    O: Write,
+    E: Write,
+    D: Files,
+    W: Watch + Sync,
+>(
     rt: &H,
     alloc: Global,
     words: &[S],
     reader: &mut R,
     out: &mut O,
     err: &mut E,
+    files: &D,
     watch: &W,
 ) -> u8
-    ensures done { result ≡ 0 → IsDoneByTwarp (map S.text words.now) (R.remaining reader.old) (O.contents out.old) (O.contents out.new) }
+    ensures done { result ≡ 0 → IsDoneByTwarp (D.told files.now) (map S.text words.now) (R.remaining reader.old) (O.contents out.old) (O.contents out.new) }
     ensures silent { result ≡ 0 → Keeps (E.contents err.old) (E.contents err.new) }
     ensures refused { result ≢ 0 → (fault : Fault) × (result ≡ status_of fault)
-        × EndsBy fault (map S.text words.now) (R.remaining reader.old) (O.contents out.old) (O.contents out.new)
+        × EndsBy (D.told files.now) fault (map S.text words.now) (R.remaining reader.old) (O.contents out.old) (O.contents out.new)
         × TellsRefusal fault (E.contents err.old) (E.contents err.new) }
     ensures untouched { (name : Text) → IsRefusedAs (map S.text words.now) name → ¬ AskHelp (map S.text words.now)
         → (result ≢ 0) × Keeps (O.contents out.old) (O.contents out.new) }
-    ensures unrun { AskWithBadLine (map S.text words.now) (R.remaining reader.old) → (result ≢ 0) × Keeps (O.contents out.old) (O.contents out.new) }
-    ensures read { IsRead (map S.text words.now) (R.remaining reader.old) (R.remaining reader.new) }
+    ensures unrun { AskWithBadLine (D.told files.now) (map S.text words.now) (R.remaining reader.old) → (result ≢ 0) × Keeps (O.contents out.old) (O.contents out.new) }
+    ensures read { IsRead (D.told files.now) (map S.text words.now) (R.remaining reader.old) (R.remaining reader.new) }
 {
     let on_chosen = move |rt: &H, alloc: Global, chosen: &Chosen<
         '_,
     >, task: &Task, watch: &W, input: &mut R, output: &mut O| -> Result<(), Fault>
         requires { BeginsWithinLimit task.now × IsChoice chosen.now }
-        ensures { CarriesOut meaning_of Makes chosen.now task.now (R.remaining input.old) (R.remaining input.new) (O.contents output.old) (O.contents output.new) result }
-    { carry_out(rt, alloc, &model_of(chosen), task, watch, input, output) };
+        ensures { CarriesOut meaning_of (Makes (D.told files.now)) chosen.now task.now (R.remaining input.old) (R.remaining input.new) (O.contents output.old) (O.contents output.new) result }
+    { answer_task(rt, alloc, files, chosen, task, watch, input, output) };
     models_program(
         rt,
         alloc,

@@ -8,7 +8,7 @@ use Rattle.vt_tasks.proofs.ModelsLemmas.{task_given}
 use Rattle.vt_tasks.proofs.ProgramLemmas.{carried, EndsAs, ends_as, untouched, unrun}
 use Rattle.vt_program.specs.Models.{meaning_of, Makes}
 use Rattle.vt_program.specs.Refusals.{TellsRefusal}
-use Rattle.vt_program.proofs.OutcomeLemmas.{ends_by, at_twarp}
+use Rattle.vt_program.proofs.OutcomeLemmas.{at_twarp}
 use Rattle.vt_program.proofs.program.Given.{Over}
 use Rattle.vt_program.proofs.program.Goals as goal
 
@@ -21,7 +21,7 @@ models_program-requires-clause-callable g c =
 
 -- the status says what was done
 ended : (g : Over) (c : goal.After-models_program g)
-    → EndsAs meaning_of Makes (codes "twarp") twarp_models (map g.S.AsStr.text c.args.words.now) (g.R.Read.remaining c.args.reader.now) (g.R.Read.remaining c.models_program.new.reader) (g.O.Write.contents c.args.out.now) (g.O.Write.contents c.models_program.new.out)
+    → EndsAs meaning_of (Makes (g.D.Files.told c.args.files.now)) (codes "twarp") twarp_models (map g.S.AsStr.text c.args.words.now) (g.R.Read.remaining c.args.reader.now) (g.R.Read.remaining c.models_program.new.reader) (g.O.Write.contents c.args.out.now) (g.O.Write.contents c.models_program.new.out)
     c.models_program.result (λ fault. TellsRefusal fault (g.E.Write.contents c.args.err.now) (g.E.Write.contents c.models_program.new.err))
 ended g c =
     let words = map g.S.AsStr.text c.args.words.now in
@@ -31,17 +31,15 @@ ended g c =
     let left = g.R.Read.remaining c.models_program.new.reader in
     let old = g.O.Write.contents c.args.out.now in
     let new = g.O.Write.contents c.models_program.new.out in
-    at_twarp (λ n t. EndsAs meaning_of Makes n t words input left old new c.models_program.result (λ fault. TellsRefusalOf n fault (g.E.Write.contents c.args.err.now) (g.E.Write.contents c.models_program.new.err))) c.texts.ensures c.model_table.ensures.table
-    (ends_as meaning_of Makes name table words input left old new _ _ _ c.models_program.ensures.done c.models_program.ensures.refused c.models_program.ensures.read
-    (λ chosen task answer h. carried meaning_of Makes g.R.Read.remaining g.O.Write.contents h (λ at_rt at_alloc at_chosen at_task at_watch at_reader at_out given left_reader left_out met. search rules)))
+    at_twarp (λ n t. EndsAs meaning_of (Makes (g.D.Files.told c.args.files.now)) n t words input left old new c.models_program.result (λ fault. TellsRefusalOf n fault (g.E.Write.contents c.args.err.now) (g.E.Write.contents c.models_program.new.err))) c.texts.ensures c.model_table.ensures.table
+    (ends_as meaning_of (Makes (g.D.Files.told c.args.files.now)) name table words input left old new _ _ _ c.models_program.ensures.done c.models_program.ensures.refused c.models_program.ensures.read
+    (λ chosen task answer h. carried meaning_of (Makes (g.D.Files.told c.args.files.now)) g.R.Read.remaining g.O.Write.contents h (λ at_rt at_alloc at_chosen at_task at_watch at_reader at_out given left_reader left_out met. search rules)))
 
 pub returns-clause-done : goal.returns-clause-done
 returns-clause-done g c = (ended g c).done
 
 pub returns-clause-refused : goal.returns-clause-refused
-returns-clause-refused g c = λ other.
-    let told = (ended g c).refused other in
-    (told.0, told.1, ends_by told.0 _ _ _ _ told.2, told.3)
+returns-clause-refused g c = (ended g c).refused
 
 pub returns-clause-untouched : goal.returns-clause-untouched
 returns-clause-untouched g c = untouched _ _ _ _ _ _ _ _ _ (ended g c)
