@@ -40,6 +40,7 @@ pub trait Files {
 }
 
 /// The files of the machine, by their paths.
+#[derive(Drop)]
 pub struct MachineFiles<'a, R> {
     rt: &'a R,
 }

@@ -104,7 +104,7 @@ pub fn program<
         '_,
     >, task: &Task, watch: &W, input: &mut R, output: &mut O| -> Result<(), Fault>
         requires { BeginsWithinLimit task.now × IsChoice chosen.now }
-        ensures { CarriesOut meaning_of (Makes (D.told files.now)) chosen.now task.now (R.remaining input.old) (R.remaining input.new) (O.contents output.old) (O.contents output.new) result }
+        ensures { CarriesOut meaning_of (Makes (D.told files.entry.now)) chosen.now task.now (R.remaining input.old) (R.remaining input.new) (O.contents output.old) (O.contents output.new) result }
     { answer_task(rt, alloc, files, chosen, task, watch, input, output) };
     models_program(
         rt,
