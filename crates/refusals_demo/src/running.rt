@@ -7,7 +7,7 @@ use std::sync::Wait;
 use std::thread::Threads;
 use vt_model::{Config, Record};
 use vt_models::Hop;
-use vt_station::{Stopped, Unwatched, run_workers};
+use vt_station::{Open, Stopped, run_workers};
 
 const TURNS: u64 = 100_000;
 
@@ -57,7 +57,7 @@ fn ran<R: Threads + Wait + Sync + Print + AllocGlobal>(
     model: &Hop,
     config: Config,
 ) -> io::Result<()> {
-    match run_workers(rt, rt.alloc(), config, model, &Unwatched, TURNS) {
+    match run_workers(rt, rt.alloc(), config, model, &Open, TURNS) {
         Ok(records) => tell_whole(rt, &records),
         Err(stopped) => tell_stop(rt, &stopped),
     }

@@ -9,7 +9,7 @@ use std::sync::Wait;
 use std::thread::Threads;
 use vt_key::Fault;
 use vt_model::{Config, Record};
-use vt_station::{Stopped, Unwatched, run_workers};
+use vt_station::{Open, Stopped, run_workers};
 
 // The run with two hops on two workers, each of so many turns.
 fn ran<R: Abort + AllocGlobal + Threads + Wait + Sync>(
@@ -17,7 +17,7 @@ fn ran<R: Abort + AllocGlobal + Threads + Wait + Sync>(
     turns: u64,
 ) -> Result<Vec<Record>, Stopped> {
     let config = Config::new(2, 2, 10, 0).expect(rt, "config");
-    run_workers(rt, rt.alloc(), config, &two_hops(rt), &Unwatched, turns)
+    run_workers(rt, rt.alloc(), config, &two_hops(rt), &Open, turns)
 }
 
 // Whether a run stopped since turns were spent, and left a beginning of the records.
