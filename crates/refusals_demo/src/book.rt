@@ -9,10 +9,12 @@ use vt_book::Book;
 use vt_key::{Fault, Key, When};
 use vt_model::{Record, Row};
 
+/// The calls of a book.
 #[derive(Clone, Copy)]
-enum Call {
-    // This worker hands in two rows, at the tick of the first number and at the next one, below the second number.
+pub(crate) enum Call {
+    /// This worker hands in two rows, at the tick of the first number and at the next one, below the second number.
     Hand(u32, u64, u64),
+    /// The records that it shows.
     Records,
 }
 
