@@ -24,16 +24,19 @@ impl Rounds {
     }
 
     fn report(&mut self, words: &[&str], text: &mut Vec<u8>) -> Result<(), Fail> {
-        let (w, least) = (index(words, 1), tick(words, 4));
-        match self
-            .board
-            .report(w, number(words, 2), number(words, 3), least)
-        {
-            Ok(Report::Waiting) => tell_word(text, "waiting"),
-            Ok(Report::Again) => tell_word(text, "again"),
-            Ok(Report::Announced(time)) => tell(text, &[time.ticks()]),
+        let (w, sent, got) = (index(words, 1), number(words, 2), number(words, 3));
+        match self.board.report(w, sent, got, tick(words, 4)) {
+            Ok(report) => tell_report(report, text),
             Err(fault) => tell_refusal(text, fault),
         }
+    }
+}
+
+fn tell_report(report: Report, text: &mut Vec<u8>) -> Result<(), Fail> {
+    match report {
+        Report::Waiting => tell_word(text, "waiting"),
+        Report::Again => tell_word(text, "again"),
+        Report::Announced(time) => tell(text, &[time.ticks()]),
     }
 }
 
