@@ -6,13 +6,9 @@
 //! and refuses memory shows by these lines what a refusal leaves.
 #![tactic(auto)]
 
-mod book;
 mod calls;
-mod process;
-mod running;
 mod sequential;
 mod station;
-mod worker;
 mod world;
 
 use std::process::ExitCode;
@@ -27,28 +23,17 @@ fn words_of(rt: &HostRuntime) -> io::Result<Vec<String>> {
 fn run(rt: &HostRuntime, name: &str) -> io::Result<bool> {
     match name {
         "sequential" => sequential::events(rt)?,
-        "process" => process::token(rt)?,
-        "worker" => worker::token(rt)?,
-        "book" => book::hand_ins(rt)?,
         "world" => world::straggler(rt)?,
-        "stop" => world::stop(rt)?,
         "station" => station::straggler(rt)?,
         _ => return Ok(false),
     }
     Ok(true)
 }
 
-const SCENARIOS: [&str; 7] = [
-    "sequential",
-    "process",
-    "worker",
-    "book",
-    "world",
-    "stop",
-    "station",
-];
+const SCENARIOS: [&str; 3] = ["sequential", "world", "station"];
 
-fn run_named(rt: &HostRuntime, words: &[String]) -> io::Result<bool> {
+fn run_named(rt: &HostRuntime) -> io::Result<bool> {
+    let words = words_of(rt)?;
     let Some(name) = words.get(1) else {
         for name in SCENARIOS {
             run(rt, name)?;
@@ -58,19 +43,8 @@ fn run_named(rt: &HostRuntime, words: &[String]) -> io::Result<bool> {
     run(rt, name.as_str())
 }
 
-// Whether a run in threads is asked for, which is no part of all scenarios.
-fn is_running(words: &[String]) -> bool {
-    words.get(1).is_some_and(|name| name.as_str() == "running")
-}
-
 fn main(rt: HostRuntime) -> ExitCode {
-    let Ok(words) = words_of(&rt) else {
-        return ExitCode::from(1);
-    };
-    if is_running(&words) {
-        return ExitCode::from(running::hops(&rt).is_err() as u8);
-    }
-    match run_named(&rt, &words) {
+    match run_named(&rt) {
         Ok(true) => ExitCode::from(0),
         Ok(false) => ExitCode::from(2),
         Err(_) => ExitCode::from(1),

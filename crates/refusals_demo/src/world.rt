@@ -226,37 +226,3 @@ pub(crate) fn straggler(rt: &HostRuntime) -> io::Result<()> {
     run_ahead(rt, &mut drive, &model, config)?;
     try_calls(rt, &mut drive, &CALLS)
 }
-
-// Tells how a list of steps ended: how many were refused; or at which step it stopped, why, the least time, and how many events
-// are past.
-fn tell_end(
-    rt: &HostRuntime,
-    drive: &Drive<'_>,
-    answer: Result<u64, Stop>,
-    past: usize,
-) -> io::Result<()> {
-    match answer {
-        Ok(refused) => println!(rt; "World::run done {refused}"),
-        Err(stop) => {
-            let (at, number) = (stop.at, stop.fault.number());
-            let least = drive.world.least().ticks();
-            println!(rt; "World::run stopped {at} {number} {least} {past}")
-        }
-    }
-}
-
-/// One process, whose token goes home and is executed. Where memory is refused, the first step is done.
-pub(crate) fn stop(rt: &HostRuntime) -> io::Result<()> {
-    let (Ok(model), Ok(config)) = (Hop::new(1, 0, 1, 0), Config::new(1, 1, 10, 0)) else {
-        return Ok(());
-    };
-    let Some(mut drive) = opened(rt, &model, config)? else {
-        return Ok(());
-    };
-    let answer = drive.run(rt.alloc(), &[Step::Home(0), Step::Execute(0)]);
-    let past = match drive.past(rt.alloc(), 0) {
-        Ok(past) => past.len(),
-        Err(_) => usize::MAX,
-    };
-    tell_end(rt, &drive, answer, past)
-}
