@@ -10,6 +10,5 @@ mod refusals;
 mod replay;
 mod running;
 mod told;
-mod turns;
 mod watching;
 mod workers;

@@ -9,7 +9,7 @@ use vt_kernel::Kernel;
 use vt_key::{Colour, Fault};
 use vt_model::Config;
 use vt_models::Hop;
-use vt_places::{Station, Worker};
+use vt_places::Station;
 use vt_steps::Step;
 
 /// What is told of a worker: the lengths of its outbox and of what arrived, and its serial; its colour, where 1 is red; its counts
@@ -144,36 +144,4 @@ fn nothing_is_taken_out_before_any_visit(rt: HostRuntime) {
         Err(_) => false,
     };
     holds(&rt, is_empty, "no records");
-}
-
-#[test]
-fn a_book_that_another_place_took_out_is_busy(rt: HostRuntime) {
-    let model = Hop::new(1, 1, 1, 0).expect(&rt, "options");
-    let config = Config::new(2, 2, 10, 0).expect(&rt, "config");
-    let (station, places) = Station::new(rt.alloc(), &model, config).expect(&rt, "memory");
-    let mut places = places;
-    let first = places.remove(0);
-    let second = places.remove(0);
-    let worker = Worker::new(rt.alloc(), &station, &model, config, 0, first);
-    let mut workers = Vec::new(rt.alloc());
-    holds(&rt, worker.is_ok(), "memory");
-    if let Ok(worker) = worker {
-        workers.push(worker).expect(&rt, "memory");
-    }
-    let mut crew = Crew { workers };
-    crew.steps(&rt, &[Step::Home(0), Step::Execute(0)]);
-    let taken = station.take_out(rt.alloc(), second);
-    holds(&rt, taken.is_ok(), "no other place had claimed the book");
-    refuses_the_book(&rt, &mut crew);
-}
-
-// The book is refused, and nothing else.
-fn refuses_the_book(rt: &impl Abort, crew: &mut Crew<'_>) {
-    let told = ([1, 0, 2], 0, [0, 0, 0, 0], [10, 0]);
-    tells(rt, crew.kernel(rt, 0), told);
-    crew.refuses(rt, 0, Step::Commit(0), Fault::Busy);
-    crew.refuses(rt, 0, Step::Close, Fault::Busy);
-    crew.reads_nothing(rt, 0);
-    tells(rt, crew.kernel(rt, 0), told);
-    crew.steps(rt, &[Step::Send(0, 1), Step::Cut(0)]);
 }
