@@ -3,16 +3,18 @@
 ghost use Rattle.std.specs.Prelude.{◌≡◌};
 
 use crate::meter::Meter;
+use crate::traps::TrapSearch;
 use std::io::{self, Write};
 
 /// A writer that may write to the terminal on which a meter shows its line: before it does, the line is taken away. What was
-/// written to it is what its own writer took.
+/// written to it is what its own writer took. Where the meter is shown, traps are counted in that.
 #[derive(Drop)]
 pub struct Clearing<'m, W, E> {
     meter: &'m Meter,
     writer: W,
     // Where the meter shows its line, if the writer writes to the same terminal.
     line: Option<E>,
+    search: TrapSearch,
 }
 
 impl<'m, W: Write, E: Write> Clearing<'m, W, E> {
@@ -25,6 +27,7 @@ impl<'m, W: Write, E: Write> Clearing<'m, W, E> {
             meter,
             writer,
             line,
+            search: TrapSearch::new(),
         }
     }
 }
@@ -36,7 +39,12 @@ impl<'m, W: Write, E: Write> Write for Clearing<'m, W, E> {
         if let Some(line) = &mut self.line {
             self.meter.hush(line);
         }
-        self.writer.write(buf)
+        let taken = self.writer.write(buf)?;
+        if self.meter.is_shown() {
+            let traps = self.search.count(buf.get(..taken).unwrap_or(buf));
+            self.meter.tell_traps(traps);
+        }
+        Ok(taken)
     }
 
     fn flush(&mut self) -> io::Result<()> {

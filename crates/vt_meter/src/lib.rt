@@ -8,6 +8,7 @@ mod clearing;
 mod meter;
 mod reading;
 mod terminal;
+mod traps;
 
 pub use clearing::Clearing;
 pub use meter::Meter;

@@ -10,7 +10,7 @@ use std::thread::{Parker, Threads};
 use std::time::{Clock, Duration, Instant};
 use vt_watch::{Progress, Watch};
 
-/// How many milliseconds a run takes before it is shown. A shorter run shows nothing.
+/// How many milliseconds a run takes before it is shown. Of a shorter run only traps are shown.
 const LONG: u64 = 2_000;
 
 /// How long the line stands before it is written anew, in milliseconds.
@@ -40,6 +40,7 @@ pub struct Meter {
     tick: AtomicU64,
     executed: AtomicU64,
     undone: AtomicU64,
+    trapped: AtomicU64,
     // Where the thread that shows the run sleeps.
     parker: Parker,
 }
@@ -52,7 +53,7 @@ impl Watch for Meter {
     }
 
     fn tell(&self, _worker: u32, progress: Progress) {
-        if self.start.is_some() {
+        if self.is_shown() {
             self.tick.fetch_max(progress.tick, Ordering::SeqCst);
             self.executed.fetch_add(progress.executed, Ordering::SeqCst);
             self.undone.fetch_add(progress.undone, Ordering::SeqCst);
@@ -75,6 +76,7 @@ impl Meter {
             tick: AtomicU64::new(0),
             executed: AtomicU64::new(0),
             undone: AtomicU64::new(0),
+            trapped: AtomicU64::new(0),
             parker: Parker::new(),
         }
     }
@@ -87,7 +89,18 @@ impl Meter {
             on_workers: self.on_workers.load(Ordering::SeqCst),
             executed: self.executed.load(Ordering::SeqCst),
             undone: self.undone.load(Ordering::SeqCst),
+            trapped: self.trapped.load(Ordering::SeqCst),
         }
+    }
+
+    /// Whether it is shown.
+    pub(crate) fn is_shown(&self) -> bool {
+        self.start.is_some()
+    }
+
+    /// Is told that so many more handlers trapped.
+    pub(crate) fn tell_traps(&self, count: u64) {
+        self.trapped.fetch_add(count, Ordering::SeqCst);
     }
 
     /// Takes the line away, for other text on the terminal, and lets no other one come.
@@ -152,11 +165,12 @@ impl Meter {
         self.show_end(alloc, self.age(rt, start), terminal);
     }
 
-    /// Writes the last line of a run that took long.
+    /// Writes the last line of a run that took long, or in which a handler trapped.
     fn show_end<E: Write>(&self, alloc: Global, age: u64, terminal: &mut E) {
         self.clear(terminal);
-        if age > LONG && self.begun.load(Ordering::SeqCst) {
-            if let Ok(text) = last_line(alloc, &self.read(), age) {
+        let whole = self.read();
+        if (age > LONG || whole.trapped > 0) && self.begun.load(Ordering::SeqCst) {
+            if let Ok(text) = last_line(alloc, &whole, age) {
                 let _ = terminal.write_all(text.as_bytes());
                 let _ = terminal.write_all(b"\n");
             }

@@ -15,6 +15,8 @@ pub struct Reading {
     pub executed: u64,
     /// How many of them were undone.
     pub undone: u64,
+    /// How many handlers trapped.
+    pub trapped: u64,
 }
 
 impl Reading {
@@ -57,8 +59,17 @@ pub fn line(
     )
 }
 
+/// What a last line says of handlers that trapped: nothing where none did.
+fn trapped(alloc: Global, count: u64) -> Result<String, AllocError> {
+    match count {
+        0 => format!(in alloc; ""),
+        1 => format!(in alloc; ", 1 handler trapped"),
+        _ => format!(in alloc; ", {count} handlers trapped"),
+    }
+}
+
 /// The last line of a run that took so many milliseconds: how many events were executed and not undone, and the seconds. On
-/// workers also how many were undone.
+/// workers also how many were undone. Where handlers trapped, also how many.
 ///
 /// An error means that memory was refused.
 pub fn last_line(alloc: Global, whole: &Reading, millis: u64) -> Result<String, AllocError> {
@@ -66,8 +77,10 @@ pub fn last_line(alloc: Global, whole: &Reading, millis: u64) -> Result<String, 
     let undone = whole.undone;
     let seconds = millis / 1_000;
     let tenth = millis / 100 % 10;
+    let trapped = trapped(alloc, whole.trapped)?;
+    let trapped = trapped.as_str();
     if !whole.on_workers {
-        return format!(in alloc; "{kept} events in {seconds}.{tenth} seconds");
+        return format!(in alloc; "{kept} events in {seconds}.{tenth} seconds{trapped}");
     }
-    format!(in alloc; "{kept} events in {seconds}.{tenth} seconds, {undone} undone")
+    format!(in alloc; "{kept} events in {seconds}.{tenth} seconds, {undone} undone{trapped}")
 }

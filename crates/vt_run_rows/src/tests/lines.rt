@@ -14,6 +14,7 @@ fn reading(tick: u64, on_workers: bool, executed: u64, undone: u64) -> Reading {
         on_workers,
         executed,
         undone,
+        trapped: 0,
     }
 }
 
@@ -79,4 +80,19 @@ fn the_last_line_tells_events_and_seconds(rt: HostRuntime) -> Result<(), Fail> {
         2_000,
         "12000 events in 2.0 seconds, 345 undone",
     )
+}
+
+#[test]
+fn the_last_line_tells_traps(rt: HostRuntime) -> Result<(), Fail> {
+    let one = Reading {
+        trapped: 1,
+        ..reading(2_000, false, 7, 0)
+    };
+    ends_with(&rt, &one, 100, "7 events in 0.1 seconds, 1 handler trapped")?;
+    let some = Reading {
+        trapped: 12,
+        ..reading(2_000, true, 20, 3)
+    };
+    let want = "17 events in 0.0 seconds, 3 undone, 12 handlers trapped";
+    ends_with(&rt, &some, 99, want)
 }
