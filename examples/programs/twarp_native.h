@@ -514,6 +514,8 @@ static void twarp_find_parts(const struct twarp_symbols *symbols) {
 
 // ---- The command line.
 
+#define TWARP_OPTIONS "--lps N, --end N, --seed N, --set NAME=VALUE, --data FILE, --finals, --records no"
+
 static u64 twarp_number(const char *option, const char *text, u64 least, u64 most) {
   u64 value = 0, length = twarp_strlen(text), good = 1 <= length && length <= 20;
   for (u64 i = 0; i < length && good; i++) {
@@ -550,7 +552,7 @@ static void twarp_take(const char *name, const char *value) {
     for (u32 i = 0; i < sizeof others / sizeof *others; i++) {
       if (twarp_strcmp(name, others[i]) == 0) return;
     }
-    twarp_stop("no option --%s: there are --lps, --end, --seed, --set NAME=VALUE, --data FILE, --finals, --records no", name);
+    twarp_stop("no option --%s: there are " TWARP_OPTIONS, name);
   }
 }
 
@@ -563,6 +565,9 @@ static void twarp_read_words(int count, char **words) {
     if (equals != 0) {
       *equals = 0;
       twarp_take(name, equals + 1);
+    } else if (twarp_strcmp(name, "help") == 0) {
+      twarp_fprintf(twarp_out, "%s: options " TWARP_OPTIONS "\n", twarp_run.program);
+      twarp_exit(0);
     } else if (twarp_strcmp(name, "finals") == 0) {
       twarp_run.finals = 1;
     } else {
