@@ -3,18 +3,19 @@
 ghost use Rattle.std.specs.Prelude.{◌≡◌};
 
 use crate::meter::Meter;
-use crate::traps::TrapSearch;
+use crate::search::{Search, TRAP, TURNS_SPENT};
 use std::io::{self, Write};
 
 /// A writer that may write to the terminal on which a meter shows its line: before it does, the line is taken away. What was
-/// written to it is what its own writer took. Where the meter is shown, traps are counted in that.
+/// written to it is what its own writer took. Where the meter is shown, traps are counted in that, and it is told of spent turns.
 #[derive(Drop)]
 pub struct Clearing<'m, W, E> {
     meter: &'m Meter,
     writer: W,
     // Where the meter shows its line, if the writer writes to the same terminal.
     line: Option<E>,
-    search: TrapSearch,
+    traps: Search,
+    spent: Search,
 }
 
 impl<'m, W: Write, E: Write> Clearing<'m, W, E> {
@@ -27,7 +28,8 @@ impl<'m, W: Write, E: Write> Clearing<'m, W, E> {
             meter,
             writer,
             line,
-            search: TrapSearch::new(),
+            traps: Search::new(TRAP),
+            spent: Search::new(TURNS_SPENT),
         }
     }
 }
@@ -41,8 +43,11 @@ impl<'m, W: Write, E: Write> Write for Clearing<'m, W, E> {
         }
         let taken = self.writer.write(buf)?;
         if self.meter.is_shown() {
-            let traps = self.search.count(buf.get(..taken).unwrap_or(buf));
-            self.meter.tell_traps(traps);
+            let piece = buf.get(..taken).unwrap_or(buf);
+            self.meter.tell_traps(self.traps.count(piece));
+            if self.spent.count(piece) > 0 {
+                self.meter.tell_spent();
+            }
         }
         Ok(taken)
     }

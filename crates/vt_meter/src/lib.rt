@@ -7,8 +7,8 @@
 mod clearing;
 mod meter;
 mod reading;
+mod search;
 mod terminal;
-mod traps;
 
 pub use clearing::Clearing;
 pub use meter::Meter;

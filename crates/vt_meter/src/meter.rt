@@ -41,6 +41,8 @@ pub struct Meter {
     executed: AtomicU64,
     undone: AtomicU64,
     trapped: AtomicU64,
+    // Whether a run's turns were spent.
+    spent: AtomicBool,
     // Where the thread that shows the run sleeps.
     parker: Parker,
 }
@@ -77,6 +79,7 @@ impl Meter {
             executed: AtomicU64::new(0),
             undone: AtomicU64::new(0),
             trapped: AtomicU64::new(0),
+            spent: AtomicBool::new(false),
             parker: Parker::new(),
         }
     }
@@ -101,6 +104,16 @@ impl Meter {
     /// Is told that so many more handlers trapped.
     pub(crate) fn tell_traps(&self, count: u64) {
         self.trapped.fetch_add(count, Ordering::SeqCst);
+    }
+
+    /// Is told that a run's turns were spent.
+    pub(crate) fn tell_spent(&self) {
+        self.spent.store(true, Ordering::SeqCst);
+    }
+
+    /// Whether a run's turns were spent.
+    pub(crate) fn is_spent(&self) -> bool {
+        self.spent.load(Ordering::SeqCst)
     }
 
     /// Takes the line away, for other text on the terminal, and lets no other one come.

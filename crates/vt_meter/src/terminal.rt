@@ -76,19 +76,38 @@ impl<E: Write + IsTerminal + Copy + Send + Drop> Terminal<E> {
         self.meter.during(rt, alloc, self.errors, work)
     }
 
+    /// Shows a line, if one is made.
+    fn show<F: FnOnce() -> Option<String>>(&self, line: F)
+    where
+        F: Drop,
+        requires { F.pre line }
+    {
+        if let Some(line) = line() {
+            let mut errors = self.errors;
+            let _ = errors.write_all(line.as_bytes());
+            let _ = errors.write_all(b"\n");
+        }
+    }
+
     /// Shows a line on what is allowed, where the status is that of a refused command line.
     pub fn hint<F: FnOnce() -> Option<String>>(&self, status: u8, line: F)
     where
         F: Drop,
         requires { F.pre line }
     {
-        if !self.shown || status != REFUSED {
-            return;
+        if self.shown && status == REFUSED {
+            self.show(line);
         }
-        if let Some(line) = line() {
-            let mut errors = self.errors;
-            let _ = errors.write_all(line.as_bytes());
-            let _ = errors.write_all(b"\n");
+    }
+
+    /// Shows a line on how many turns would allow more, where the program has refused a run whose turns were spent.
+    pub fn hint_on_turns<F: FnOnce() -> Option<String>>(&self, line: F)
+    where
+        F: Drop,
+        requires { F.pre line }
+    {
+        if self.shown && self.meter.is_spent() {
+            self.show(line);
         }
     }
 }
