@@ -4,3 +4,4 @@ pub mod OwnLemmas
 pub mod ModelLemmas
 pub mod TakenLemmas
 pub mod ProgramLemmas
+pub mod ShownLemmas

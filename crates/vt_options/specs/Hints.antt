@@ -4,6 +4,7 @@ use Rattle.clap.specs.Words.{Text}
 use Rattle.vt_options.specs.Line.{given_by, subcommand_by, texts_by}
 use Rattle.vt_options.specs.Programs.{SetsNothing}
 use Rattle.vt_options.specs.Requests.{IsRefusedAsOf, IsUnreadableBy, Line}
+use Rattle.vt_options.specs.Shown.{IsShownSentence, IsShownWord}
 
 -- where to read what is allowed
 abbrev pub see_help : Text → Text
@@ -21,23 +22,27 @@ parser_says program said = program ++ (codes ": " ++ (said ++ see_help program))
 abbrev pub option_takes : Text → Text → Text → Text → Text
 option_takes program name takes word = program ++ (codes ": --" ++ (name ++ (codes " takes " ++ (takes ++ (codes ", not '" ++ (word ++ codes "'"))))))
 
--- a line tells the option of this name, and the word that the words give it: of `set` one that sets nothing
+-- a line tells the option of this name, and shows the word that the words give it: of `set` one that sets nothing
 pub record TellsWord (program : Text) (line : Line) (words : List Text) (name text : Text) : Type 0 where
   pub takes : Text
   pub word : Text
   pub given : (given_by line.app words name ≡ Some word) ⊎ ((name ≡ codes "set") × SetsNothing (texts_by line.app words (codes "set")) word)
-  pub text_is : text ≡ option_takes program name takes word
+  pub shown : Text
+  pub shown_is : IsShownWord word shown
+  pub text_is : text ≡ option_takes program name takes shown
 
 -- a line tells that there is no command
 pub record TellsNoCommand (program : Text) (line : Line) (words : List Text) (text : Text) : Type 0 where
   pub none : subcommand_by line.app words ≡ None
   pub text_is : text ≡ no_command program
 
--- a line tells what the parser says of words that it can't read
+-- a line shows what the parser says of words that it can't read
 pub record TellsUnreadable (program : Text) (line : Line) (words : List Text) (text : Text) : Type 0 where
   pub unreadable : IsUnreadableBy line.app words
   pub said : Text
-  pub text_is : text ≡ parser_says program said
+  pub shown : Text
+  pub shown_is : IsShownSentence said shown
+  pub text_is : text ≡ parser_says program shown
 
 -- a line tells why the words are refused under a name
 pub record IsHintOn (program : Text) (line : Line) (words : List Text) (text : Text) : Type 0 where

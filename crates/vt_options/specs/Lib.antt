@@ -7,4 +7,5 @@ pub mod Own
 pub mod Asked
 pub mod Tasks
 pub mod Taken
+pub mod Shown
 pub mod Hints

@@ -1,4 +1,4 @@
-//! What a terminal is told after a refusal: which word it was, and what is allowed.
+//! What a terminal is told after a refusal: which word it was, and what is allowed; words of the command line are told as [`shown_word`] shows them.
 
 ghost use Rattle.std.specs.Prelude.{◌≡◌, ◌⊎◌, Some, IfSome, codes, map, string_bytes};
 ghost use Rattle.clap.specs.Words.{Text, first_value, found_of};
@@ -6,11 +6,13 @@ ghost use Rattle.vt_options.specs.Line.{texts_in};
 ghost use Rattle.vt_options.specs.Programs.{SetsNothing};
 ghost use Rattle.vt_options.specs.Own.{AllHaveDefaults, line_for, models_of};
 ghost use Rattle.vt_options.specs.Hints.{IsHintOn, no_command, option_takes, parser_says};
+ghost use Rattle.vt_options.specs.Shown.{IsShownSentence, IsShownWord};
 
 use crate::asking::{read_request, table_matches};
 use crate::line::ProgramTexts;
 use crate::own::{ModelTable, OwnOption};
 use crate::programs::unset_in;
+use crate::shown::{shown_sentence, shown_word};
 use crate::texts::{EVERY_MODEL, OF_PROGRAMS, OptionText};
 use clap::error::ErrorKind;
 use clap::{ArgMatches, Error};
@@ -28,7 +30,14 @@ fn takes_of(options: &[OptionText], name: &str) -> Option<&'static str> {
     None
 }
 
-/// A line on an option that is refused: which word it was given, and what it takes. None: memory was refused.
+/// A line on an option that is refused: what is shown of the word that it was given, and what it takes. None: memory was refused.
+fn option_line(alloc: Global, program: &str, name: &str, takes: &str, shown: &str) -> Option<String>
+    ensures { IfSome result (λ line. string_bytes line ≡ option_takes program.now name.now takes.now shown.now) }
+{
+    format!(in alloc; "{program}: --{name} takes {takes}, not '{shown}'").ok()
+}
+
+/// The same, by the word that it was given.
 fn hint_on_option(
     alloc: Global,
     program: &str,
@@ -36,9 +45,10 @@ fn hint_on_option(
     takes: &str,
     word: &str,
 ) -> Option<String>
-    ensures { IfSome result (λ line. string_bytes line ≡ option_takes program.now name.now takes.now word.now) }
+    ensures { IfSome result (λ line. (shown : Text) × IsShownWord word.now shown × (string_bytes line ≡ option_takes program.now name.now takes.now shown)) }
 {
-    format!(in alloc; "{program}: --{name} takes {takes}, not '{word}'").ok()
+    let shown = shown_word(alloc, word)?;
+    option_line(alloc, program, name, takes, shown.as_str())
 }
 
 /// A line on words without a command. None: memory was refused.
@@ -57,12 +67,13 @@ fn hint_on_words(alloc: Global, program: &str, said: &str) -> Option<String>
 
 /// The same, by the parser's error.
 fn hint_on_error(alloc: Global, program: &str, error: Error) -> Option<String>
-    ensures { IfSome result (λ line. (said : Text) × (string_bytes line ≡ parser_says program.now said)) }
+    ensures { IfSome result (λ line. (said : Text) × (shown : Text) × IsShownSentence said shown × (string_bytes line ≡ parser_says program.now shown)) }
 {
     let text = error.to_string(alloc).ok()?;
     let first = text.as_str().lines().next()?;
     let said = first.strip_prefix("error: ").unwrap_or(first);
-    hint_on_words(alloc, program, said)
+    let shown = shown_sentence(alloc, said)?;
+    hint_on_words(alloc, program, shown.as_str())
 }
 
 /// Which values an option of a model takes, where a table has it.

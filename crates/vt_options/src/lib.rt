@@ -16,6 +16,7 @@ mod own;
 mod programs;
 mod reading;
 mod refusing;
+mod shown;
 mod taken;
 mod texts;
 
@@ -26,5 +27,6 @@ pub use limits::{MAX_FUEL, MAX_TURNS};
 pub use line::ProgramTexts;
 pub use own::{Chosen, ModelOptions, ModelTable, OwnOption};
 pub use programs::{Assignment, ProgramChoice};
+pub use shown::{WORD_COLUMNS, shown_word};
 pub use taken::taken_name;
 pub use texts::{GENERAL, OptionText};

@@ -40,5 +40,5 @@ returns g c =
     IfSome_then c.hint_on_option.result c.hint_on_option.ensures (λ line is. record {
       name = name;
       refused = refused g (goal.at.returns g c).After-table_matches;
-      told = inl (record { takes = c.as_str.result.now; word = c.in_ok-word.word.now; given = given; text_is = is });
+      told = inl (record { takes = c.as_str.result.now; word = c.in_ok-word.word.now; given = given; shown = is.0; shown_is = is.1; text_is = is.2 });
     })
