@@ -2,7 +2,7 @@
 
 ghost use Rattle.std.specs.Prelude.{IfOk, IfErr, IfSome, map, codes, string_bytes};
 ghost use Rattle.vt_options.specs.Asked.{IsAsked};
-ghost use Rattle.vt_options.specs.Hints.{IsHintOn};
+ghost use Rattle.vt_options.specs.Hints.{IsHintOn, TellsTurns};
 ghost use Rattle.vt_command.specs.Table.{twarp_models};
 ghost use Rattle.vt_command.specs.Requests.{IsRefusedBy, twarp_line};
 
@@ -30,4 +30,12 @@ pub fn hint<S: AsStr>(alloc: Global, words: &[S]) -> Option<String>
     ensures { IfSome result (λ line. IsHintOn (codes "twarp") twarp_line (map S.text words.now) (string_bytes line)) }
 {
     vt_options::hint(alloc, &TEXTS, &MODELS, words)
+}
+
+/// A line for a terminal where a run that the words ask for was refused for its turns: how many would allow more. None: the words ask
+/// for no run, its turns are the most that there may be, or memory was refused.
+pub fn turns_hint<S: AsStr>(alloc: Global, words: &[S]) -> Option<String>
+    ensures { IfSome result (λ line. TellsTurns (codes "twarp") twarp_models (map S.text words.now) (string_bytes line)) }
+{
+    vt_options::turns_hint(alloc, &TEXTS, &MODELS, words)
 }

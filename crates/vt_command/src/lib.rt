@@ -8,6 +8,6 @@ mod asking;
 pub mod laws;
 mod table;
 
-pub use asking::{hint, read_request};
+pub use asking::{hint, read_request, turns_hint};
 pub use table::{model_table, texts};
 pub use vt_options::Request;

@@ -1,7 +1,12 @@
 -- Lines for a terminal on a command line that is refused.
-use Rattle.std.specs.Prelude.{◌≡◌, ◌⊎◌, List, ◌++◌, Some, None, codes}
+use Rattle.std.specs.Prelude.{◌≡◌, ◌⊎◌, ℕ, ◌<◌, ◌≤◌, List, ◌++◌, Option, Some, None, codes}
+use Rattle.std.specs.Fmt.{decimal}
 use Rattle.clap.specs.Words.{Text}
+use Rattle.vt_options.specs.declared.choices.RunSettings.{RunSettings}
+use Rattle.vt_options.specs.declared.limits.TheConstants.{MAX_TURNS}
+use Rattle.vt_options.specs.declared.programs.ProgramChoice.{ProgramChoice}
 use Rattle.vt_options.specs.Line.{given_by, subcommand_by, texts_by}
+use Rattle.vt_options.specs.Own.{Models, AskRunWith}
 use Rattle.vt_options.specs.Programs.{SetsNothing}
 use Rattle.vt_options.specs.Requests.{IsRefusedAsOf, IsUnreadableBy, Line}
 use Rattle.vt_options.specs.Shown.{IsShownSentence, IsShownWord}
@@ -21,6 +26,10 @@ parser_says program said = program ++ (codes ": " ++ (said ++ see_help program))
 -- which values an option takes, and the word that it was given
 abbrev pub option_takes : Text → Text → Text → Text → Text
 option_takes program name takes word = program ++ (codes ": --" ++ (name ++ (codes " takes " ++ (takes ++ (codes ", not '" ++ (word ++ codes "'"))))))
+
+-- how many turns allow more than these
+abbrev pub more_turns : Text → ℕ → ℕ → Text
+more_turns program more turns = program ++ (codes ": --turns " ++ (decimal more ++ (codes " allows more than " ++ decimal turns)))
 
 -- a line tells the option of this name, and shows the word that the words give it: of `set` one that sets nothing
 pub record TellsWord (program : Text) (line : Line) (words : List Text) (name text : Text) : Type 0 where
@@ -49,3 +58,15 @@ pub record IsHintOn (program : Text) (line : Line) (words : List Text) (text : T
   pub name : Text
   pub refused : IsRefusedAsOf line words name
   pub told : TellsWord program line words name text ⊎ (TellsNoCommand program line words text ⊎ TellsUnreadable program line words text)
+
+-- a line tells how many turns allow more than those of the run that the words ask for
+pub record TellsTurns (program : Text) (models : Models) (words : List Text) (text : Text) : Type 0 where
+  pub settings : RunSettings
+  pub model : ℕ
+  pub values : List ℕ
+  pub choice : Option ProgramChoice
+  pub asked : AskRunWith program models words settings model values choice
+  pub more : ℕ
+  pub is_more : settings.turns < more
+  pub allowed : more ≤ MAX_TURNS
+  pub text_is : text ≡ more_turns program more settings.turns

@@ -1,14 +1,17 @@
-//! What a terminal is told after a refusal: which word it was, and what is allowed; words of the command line are told as [`shown_word`] shows them.
+//! What a terminal is told after a refusal: which word it was, and what is allowed; and after a run without enough turns, how many
+//! would allow more. Words of the command line are told as [`shown_word`] shows them.
 
 ghost use Rattle.std.specs.Prelude.{◌≡◌, ◌⊎◌, Some, IfSome, codes, map, string_bytes};
 ghost use Rattle.clap.specs.Words.{Text, first_value, found_of};
 ghost use Rattle.vt_options.specs.Line.{texts_in};
 ghost use Rattle.vt_options.specs.Programs.{SetsNothing};
 ghost use Rattle.vt_options.specs.Own.{AllHaveDefaults, line_for, models_of};
-ghost use Rattle.vt_options.specs.Hints.{IsHintOn, no_command, option_takes, parser_says};
+ghost use Rattle.vt_options.specs.Hints.{IsHintOn, TellsTurns, more_turns, no_command, option_takes, parser_says};
 ghost use Rattle.vt_options.specs.Shown.{IsShownSentence, IsShownWord};
 
-use crate::asking::{read_request, table_matches};
+use crate::asking::{Request, read_request, table_matches};
+use crate::choices::Task;
+use crate::limits::MAX_TURNS;
 use crate::line::ProgramTexts;
 use crate::own::{ModelTable, OwnOption};
 use crate::programs::unset_in;
@@ -145,4 +148,32 @@ pub fn hint<S: AsStr>(
     let word = refused_word(inner, table.programs, name)?;
     let takes = table_takes(alloc, table, name)?;
     hint_on_option(alloc, texts.name, name, takes.as_str(), word)
+}
+
+/// A line on a run without enough turns. None: memory was refused.
+fn hint_on_turns(alloc: Global, program: &str, more: u64, turns: u64) -> Option<String>
+    ensures { IfSome result (λ line. string_bytes line ≡ more_turns program.now more turns) }
+{
+    format!(in alloc; "{program}: --turns {more} allows more than {turns}").ok()
+}
+
+/// A line for a terminal where a run that the words ask for was refused for its turns: it names ten times as many, or the most that there
+/// may be. None: the words ask for no run, its turns are the most, or memory was refused.
+pub fn turns_hint<S: AsStr>(
+    alloc: Global,
+    texts: &ProgramTexts,
+    table: &ModelTable<'_>,
+    words: &[S],
+) -> Option<String>
+    requires { AllHaveDefaults table.now.models.now }
+    ensures { IfSome result (λ line. TellsTurns texts.now.name.now (models_of table.now) (map S.text words.now) (string_bytes line)) }
+{
+    let Ok(Request::Task(Task::Run(settings), _)) = read_request(alloc, texts, table, words) else {
+        return None;
+    };
+    let more = settings.turns.saturating_mul(10).min(MAX_TURNS);
+    if more <= settings.turns {
+        return None;
+    }
+    hint_on_turns(alloc, texts.name, more, settings.turns)
 }

@@ -22,7 +22,7 @@ mod texts;
 
 pub use asking::{Request, read_request};
 pub use choices::{ReplaySettings, RunSettings, Synch, Task};
-pub use hinting::hint;
+pub use hinting::{hint, turns_hint};
 pub use limits::{MAX_FUEL, MAX_TURNS};
 pub use line::ProgramTexts;
 pub use own::{Chosen, ModelOptions, ModelTable, OwnOption};
