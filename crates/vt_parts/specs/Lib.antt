@@ -5,3 +5,4 @@ pub mod HistogramLaws
 pub mod Drawing
 pub mod DrawingLaws
 pub mod Exponential
+pub mod Sending
