@@ -4,12 +4,12 @@ use Rattle.std.specs.List.Sorted.{IsPermutation, IsSorted}
 use Rattle.std.specs.Ordering.{is_lt}
 use Rattle.std.proofs.lemmas.Bool.{cases_order}
 use Rattle.std.specs.Option.{option_map}
-use Rattle.std.proofs.lemmas.List.{append_assoc, append-nil, map-append, map-set, set-get_or}
+use Rattle.std.proofs.lemmas.List.{nil_from_length, append_assoc, append-nil, map-append, map-set, set-get_or}
 use Rattle.std.proofs.lemmas.Option.{slice_get-map, slice_get-get_or, get_or_from_slice_get}
 use Rattle.std.proofs.Math.Seq.{map-set_same}
 use Rattle.std.proofs.Math.Nat.{div-mul-le_self}
 use Rattle.std.proofs.lemmas.Nat.{le-div, pow_pos}
-use Rattle.std.proofs.lemmas.List.Sorted.{IsPermutation-refl, IsPermutation-sym, IsPermutation-trans, IsPermutation-append_left, IsPermutation-append_right, IsPermutation-append_comm, IsPermutation-middle, IsPermutation-to_front, IsPermutation-map}
+use Rattle.std.proofs.lemmas.List.Sorted.{length_permutation, IsPermutation-refl, IsPermutation-sym, IsPermutation-trans, IsPermutation-append_left, IsPermutation-append_right, IsPermutation-append_comm, IsPermutation-middle, IsPermutation-to_front, IsPermutation-map}
 use Rattle.vt_key.specs.Order.{KeyBefore}
 use Rattle.vt_key.specs.Times.{ticks_of}
 use Rattle.vt_key.specs.Lists.{Among}
@@ -270,6 +270,12 @@ module _ {P : Type 0} where
       (IsPermutation-trans (entries_of_days old) (list ++ entries_of_days (slice_set old day [])) (sorted ++ entries_of_days (slice_set old day []))
       (IsPermutation-sym (list ++ entries_of_days (slice_set old day [])) (entries_of_days old) (days-taken old day list taken.there))
       (IsPermutation-append_left (entries_of_days (slice_set old day [])) list sorted h))
+
+  -- the day that was emptied had some
+  pub taken-some : (day : ℕ) (list sorted : List (Entry P)) (old new : List (List (Entry P))) → IsDayTaken day list old new → IsPermutation list sorted → sorted ≡ [] → ⊥
+  taken-some day list sorted old new taken h none =
+      let empty : list ≡ [] = nil_from_length list (sym (length_permutation list sorted h) ∙ ap length none) in
+      let never : false ≡ true = ap is_used (sym empty) ∙ taken.used in absurd (cc)
 
   -- ---- no entries
 

@@ -4,4 +4,5 @@ pub mod StepLemmas
 pub mod GivenLemmas
 pub mod CalendarLemmas
 pub mod HeapLemmas
+pub mod SorterLemmas
 pub mod ProgressLemmas

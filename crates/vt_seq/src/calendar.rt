@@ -11,6 +11,7 @@ ghost use Rattle.vt_seq.specs.Days.{day_of, calendar_entries, AreDated, AreJustB
 use crate::days::Days;
 use crate::entry::Entry;
 use crate::fit::{Fit, MOST_SCALE};
+use crate::sorter::Sorter;
 use std::alloc::Global;
 use vt_key::Fault;
 use vt_model::Sent;
@@ -28,6 +29,7 @@ pub(crate) struct Calendar<P: Copy> {
     next: usize,
     present: Vec<Entry<P>>,
     days: Days<P>,
+    sorter: Sorter,
     fit: Fit,
     ghost scaled: { scale ≤ MOST_SCALE },
     ghost falling: { IsFalling present.items } by { IsFalling-prop present.items },
@@ -36,21 +38,23 @@ pub(crate) struct Calendar<P: Copy> {
 }
 
 impl<P: Copy> Calendar<P> {
-    /// A calendar without events.
+    /// A calendar without events, for so many processes.
     ///
     /// [`Fault::Memory`]: memory was refused.
-    pub(crate) fn new(alloc: Global) -> Result<Calendar<P>, Fault>
+    pub(crate) fn new(alloc: Global, lps: u32) -> Result<Calendar<P>, Fault>
         ensures empty { IfOk result (λ calendar. calendar_entries calendar.present.items calendar.days ≡ []) }
         ensures window { IfOk result (λ calendar. (calendar.base ≡ 0) × (calendar.next ≡ 0)) }
         ensures refused { IfErr result (λ fault. fault ≡ Memory) }
     {
         let days = Days::new(alloc)?;
+        let sorter = Sorter::new(alloc, lps)?;
         Ok(Calendar {
             scale: 0,
             base: 0,
             next: 0,
             present: Vec::new(alloc),
             days,
+            sorter,
             fit: Fit::new(),
         })
     }
@@ -127,7 +131,7 @@ impl<P: Copy> Calendar<P> {
         if let Some(day) = self.days.take_first(&mut self.present) {
             self.next = day + 1;
             self.fit.count_taken(self.present.len());
-            self.present.sort_unstable();
+            self.sorter.sort(&mut self.present);
         }
     }
 

@@ -44,7 +44,7 @@ impl<'m, M: EventModel> Engine<'m, M> {
         ensures stands { IfOk result (λ run. StandsAt (simulation_of (M.handlers model.now) config) 0 run.pending run.processes.items) }
         ensures refused { IfErr result (λ fault. fault ≡ Memory) }
     {
-        let mut pending = PendingEvents::new(alloc)?;
+        let mut pending = PendingEvents::new(alloc, config.lps)?;
         let Ok(mut processes) = Vec::with_capacity(alloc, config.lps as usize) else {
             return Err(Fault::Memory);
         };

@@ -11,6 +11,7 @@ mod execution;
 mod fit;
 mod pending;
 mod run;
+mod sorter;
 
 pub use execution::Execution;
 pub use run::Sequential;

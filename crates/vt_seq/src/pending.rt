@@ -42,14 +42,14 @@ impl<P: Copy> Model for PendingEvents<P> {
 }
 
 impl<P: Copy> PendingEvents<P> {
-    /// No events.
+    /// No events, of so many processes.
     ///
     /// [`Fault::Memory`]: memory was refused.
-    pub(crate) fn new(alloc: Global) -> Result<PendingEvents<P>, Fault>
+    pub(crate) fn new(alloc: Global, lps: u32) -> Result<PendingEvents<P>, Fault>
         ensures empty { IfOk result (λ pending. pending ≡ []) }
         ensures refused { IfErr result (λ fault. fault ≡ Memory) }
     {
-        let calendar = Calendar::new(alloc)?;
+        let calendar = Calendar::new(alloc, lps)?;
         Ok(PendingEvents {
             calendar,
             far: BinaryHeap::new(alloc),

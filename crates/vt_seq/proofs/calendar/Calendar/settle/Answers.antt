@@ -3,7 +3,7 @@ use Rattle.std.specs.List.Sorted.{IsPermutation}
 use Rattle.std.proofs.lemmas.List.{nil_from_length}
 use Rattle.vt_seq.specs.declared.entry.Entry.{Entry}
 use Rattle.vt_seq.specs.Days.{entries_of_days, AreDated}
-use Rattle.vt_seq.proofs.CalendarLemmas.{sorted-falling, just-permuted, taken-just, dated-taken, entries-taken, none-falling, none-just}
+use Rattle.vt_seq.proofs.CalendarLemmas.{sorted-falling, just-permuted, taken-just, taken-some, dated-taken, entries-taken, none-falling, none-just}
 use Rattle.vt_seq.proofs.calendar.Calendar.settle.Goals as goal
 
 pub overflow_add-self : goal.overflow_add-self
@@ -16,8 +16,8 @@ invariant_of-self-in-Some g c =
     let list = c.take_first.new.present.items in
     record {
       scaled = it.scaled;
-      falling = sorted-falling c.sort_unstable.new.self.items c.sort_unstable.ensures.sorted;
-      just_past = just-permuted it.scale (it.base + (day + 1)) list c.sort_unstable.new.self.items c.sort_unstable.ensures.permutation (taken-just it.scale it.base it.next day list it.days c.take_first.new.self it.dated c.in-Some.ensures.taken);
+      falling = sorted-falling c.sort.new.entries.items c.sort.ensures.sorted;
+      just_past = just-permuted it.scale (it.base + (day + 1)) list c.sort.new.entries.items c.sort.ensures.permutation (taken-just it.scale it.base it.next day list it.days c.take_first.new.self it.dated c.in-Some.ensures.taken);
       dated = dated-taken it.scale it.base it.next day list it.days c.take_first.new.self it.dated c.in-Some.ensures.taken;
     }
 
@@ -36,8 +36,16 @@ invariant_of-self-in_default g c =
 pub returns-in-Some-clause-same : goal.returns-in-Some-clause-same
 returns-in-Some-clause-same g c =
     let it = c.args.self.now in
-    let sorted = c.sort_unstable.new.self.items in
+    let sorted = c.sort.new.entries.items in
     let zero : length it.present.items ≡ 0 = search rules in
     let none : it.present.items ≡ [] = nil_from_length it.present.items zero in
     subst (λ (l : List (Entry _)). IsPermutation (l ++ entries_of_days it.days) (sorted ++ entries_of_days c.take_first.new.self)) (sym none)
-    (entries-taken c.in-Some.day c.take_first.new.present.items sorted it.days c.take_first.new.self c.in-Some.ensures.taken c.sort_unstable.ensures.permutation)
+    (entries-taken c.in-Some.day c.take_first.new.present.items sorted it.days c.take_first.new.self c.in-Some.ensures.taken c.sort.ensures.permutation)
+
+pub returns-in-Some-clause-settled : goal.returns-in-Some-clause-settled
+returns-in-Some-clause-settled g c none =
+    absurd (taken-some c.in-Some.day c.take_first.new.present.items c.sort.new.entries.items c.args.self.now.days c.take_first.new.self c.in-Some.ensures.taken c.sort.ensures.permutation none)
+
+pub returns-in-Some-clause-next : goal.returns-in-Some-clause-next
+returns-in-Some-clause-next g c none =
+    absurd (taken-some c.in-Some.day c.take_first.new.present.items c.sort.new.entries.items c.args.self.now.days c.take_first.new.self c.in-Some.ensures.taken c.sort.ensures.permutation none)
