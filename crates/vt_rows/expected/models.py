@@ -8,7 +8,7 @@ as a 64-bit nonce, and the run takes the event of least (time, source, number) f
     models.py stations LPS END SEED JOBS SERVICE TRAVEL
 
 prints a line `time process kind value` for each record, then for each process its final value, its send number and its
-place in its random words.
+place in its random words, and last how many records there are, and all of them in their order as one number.
 """
 
 import heapq
@@ -124,6 +124,10 @@ def main():
         print(*record)
     for process in run.processes:
         print("process", process.lp, "final", process.final(), "number", process.number, "place", process.place)
+    folded = 0
+    for time, process, _kind, value in run.records:
+        folded = ((folded * 31 + time) * 31 + process) * 31 + value & MASK
+    print("records", len(run.records), "folded", folded)
 
 
 if __name__ == "__main__":

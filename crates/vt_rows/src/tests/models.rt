@@ -7,7 +7,7 @@ use std::alloc::Global;
 use std::rt::HostRuntime;
 use std::test::Fail;
 use vt_key::Fault;
-use vt_model::{Config, Model as EventModel};
+use vt_model::{Config, Model as EventModel, Record};
 use vt_models::{Phold, Stations};
 use vt_seq::Sequential;
 
@@ -98,5 +98,61 @@ fn runs_leave_send_numbers_and_places(rt: HostRuntime) -> Result<(), Fail> {
     let (jobs, config) = (Stations::new(2, 1, 1)?, Config::new(1, 1, 5, 0)?);
     let is_so = leaves_each(rt.alloc(), &jobs, config, 9, 9)?;
     holds(&rt, is_so, "two jobs");
+    Ok(())
+}
+
+// The records in their order as one number.
+fn folded(records: &[Record]) -> u64 {
+    let mut sum = 0_u64;
+    for record in records {
+        for part in [record.time, u64::from(record.lp), record.value] {
+            sum = sum.wrapping_mul(31).wrapping_add(part);
+        }
+    }
+    sum
+}
+
+// Whether a run has so many records, and as one number they are this.
+fn is_folded(
+    alloc: Global,
+    tokens: &Phold,
+    config: Config,
+    count: usize,
+    want: u64,
+) -> Result<bool, Fault> {
+    match opened(alloc, tokens, config) {
+        Ok(mut run) => {
+            let records = whole(alloc, &mut run)?;
+            Ok(records.len() == count && folded(&records) == want)
+        }
+        Err(fault) => Err(fault),
+    }
+}
+
+/// Ticks with 100 events and with 8,192, and with 16 of one process: `expected/models.py phold 64 20 258 4 50 1 4`,
+/// `phold 2048 4 258 4 100 1 1` and `phold 1 4 258 16 0 1 1`
+#[test]
+fn ticks_with_many_events_are_in_order(rt: HostRuntime) -> Result<(), Fail> {
+    let (tokens, config) = (Phold::new(4, 50, 1, 4)?, Config::new(64, 1, 20, 258)?);
+    let is_so = is_folded(
+        rt.alloc(),
+        &tokens,
+        config,
+        1_868,
+        16_812_861_344_043_388_808,
+    )?;
+    holds(&rt, is_so, "a hundred");
+    let (tokens, config) = (Phold::new(4, 100, 1, 1)?, Config::new(2_048, 1, 4, 258)?);
+    let is_so = is_folded(
+        rt.alloc(),
+        &tokens,
+        config,
+        24_576,
+        11_856_483_964_188_327_811,
+    )?;
+    holds(&rt, is_so, "8,192");
+    let (tokens, config) = (Phold::new(16, 0, 1, 1)?, Config::new(1, 1, 4, 258)?);
+    let is_so = is_folded(rt.alloc(), &tokens, config, 48, 8_610_144_968_455_760_664)?;
+    holds(&rt, is_so, "sixteen of one process");
     Ok(())
 }
