@@ -1,2 +1,4 @@
 pub mod AlignmentLemmas
+pub mod ReadyLemmas
 pub mod RunLemmas
+pub mod SprintLemmas

@@ -3,4 +3,6 @@ pub mod Memory
 pub mod Decoding
 pub mod Compressed
 pub mod Codes
+pub mod Readiness
 pub mod Steps
+pub mod Sprints

@@ -2,9 +2,11 @@
 
 ghost use Rattle.std.specs.Prelude.{◌≡◌, ◌+◌, ◌≤◌, length, IfOk, take};
 ghost use Rattle.vt_riscv.specs.Codes.{long_at, short_of, instruction_with, instruction_at, instructions_of};
+ghost use Rattle.vt_riscv.specs.Readiness.{AreReady};
 
 use crate::decoding::plain;
 use crate::memory::{half, word};
+use crate::ready::{Ready, ready_all};
 use crate::{Instruction, Operation, decode, decode_compressed};
 use std::alloc::{AllocError, Global};
 use std::vec::Vec;
@@ -14,12 +16,15 @@ use std::vec::Vec;
 pub struct Code {
     /// The instruction at each even place from `IMAGE` on.
     pub instructions: Vec<Instruction>,
+    // The first of these once more, as many steps in a row want them.
+    pub(crate) ready: Vec<Ready>,
     /// The bytes from `IMAGE` on: the code, then constants.
     pub image: Vec<u8>,
     /// The bytes from `DATA` on.
     pub input: Vec<u8>,
     /// Whether instructions may be compressed. They may lie at any even place then, and else at multiples of 4.
     pub compressed: bool,
+    ghost readied: { AreReady compressed instructions.items ready.items },
 }
 
 impl Code {
@@ -37,8 +42,10 @@ impl Code {
         ensures compressed { IfOk result (λ code. code.compressed ≡ compressed) }
     {
         let instructions = instructions(alloc, image.get(..length).unwrap_or(&image), compressed)?;
+        let ready = ready_all(alloc, instructions.as_slice(), compressed)?;
         Ok(Code {
             instructions,
+            ready,
             image,
             input,
             compressed,

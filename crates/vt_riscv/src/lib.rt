@@ -10,6 +10,8 @@ mod instruction;
 mod machine;
 mod memory;
 mod places;
+mod ready;
+mod sprint;
 
 pub use code::Code;
 pub use compressed::decode_compressed;

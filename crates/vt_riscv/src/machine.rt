@@ -62,7 +62,7 @@ pub struct Machine<const N: usize> {
 
 // Whether no instruction may begin at a place.
 #[inline]
-fn is_misaligned(code: &Code, place: u64) -> bool
+pub(crate) fn is_misaligned(code: &Code, place: u64) -> bool
     ensures { result ≡ is_misaligned code.now place }
 {
     // The first test is the usual one.
@@ -160,7 +160,7 @@ impl<const N: usize> Machine<N> {
 
     // What lies at a place, if all of it lies in one part of memory.
     #[inline(always)]
-    fn load_from(&self, code: &Code, size: Size, at: u64) -> Option<u64>
+    pub(crate) fn load_from(&self, code: &Code, size: Size, at: u64) -> Option<u64>
         ensures { result ≡ loaded_from code.now self.now size at }
     {
         if at >= STATE {
@@ -326,9 +326,19 @@ impl<const N: usize> Machine<N> {
     {
         let mut left = fuel;
         'steps: while left > 0 {
-            left -= 1;
-            if let Some(stop) = self.step(code) {
-                return Outcome { stop, left };
+            let sprint = self.sprint(code, left);
+            left = sprint.left;
+            if sprint.called {
+                return Outcome {
+                    stop: Stop::Called,
+                    left,
+                };
+            }
+            if left > 0 {
+                left -= 1;
+                if let Some(stop) = self.step(code) {
+                    return Outcome { stop, left };
+                }
             }
         }
         let stop = if self.place == RETURN {

@@ -1,7 +1,7 @@
 //! Numbers in memory.
 
 ghost use Rattle.std.specs.Prelude.{◌≡◌, ◌+◌, ◌≤◌, length};
-ghost use Rattle.vt_riscv.specs.declared.memory.Size.TheVariants.{Half, Word};
+ghost use Rattle.vt_riscv.specs.declared.memory.Size.TheVariants.{Half, Word, Double};
 ghost use Rattle.vt_riscv.specs.Memory.{width, number_at, number_within, stored, extended};
 
 /// How many bytes a number has in memory.
@@ -41,7 +41,20 @@ pub(crate) fn word(bytes: &[u8], at: usize) -> u32
     requires { at + 4 ≤ length bytes.now }
     ensures { result ≡ number_at Word bytes.now at }
 {
-    u32::from_le_bytes([bytes[at], bytes[at + 1], bytes[at + 2], bytes[at + 3]])
+    let mut found = [0; 4];
+    found.copy_from_slice(&bytes[at..at + 4]);
+    u32::from_le_bytes(found)
+}
+
+/// The number of 64 bits that lies at a place, its low byte first.
+#[inline(always)]
+fn double(bytes: &[u8], at: usize) -> u64
+    requires { at + 8 ≤ length bytes.now }
+    ensures { result ≡ number_at Double bytes.now at }
+{
+    let mut found = [0; 8];
+    found.copy_from_slice(&bytes[at..at + 8]);
+    u64::from_le_bytes(found)
 }
 
 /// The number that lies at a place, its low byte first.
@@ -54,16 +67,7 @@ fn number(bytes: &[u8], at: usize, size: Size) -> u64
         Size::Byte => u64::from(bytes[at]),
         Size::Half => u64::from(half(bytes, at)),
         Size::Word => u64::from(word(bytes, at)),
-        Size::Double => u64::from_le_bytes([
-            bytes[at],
-            bytes[at + 1],
-            bytes[at + 2],
-            bytes[at + 3],
-            bytes[at + 4],
-            bytes[at + 5],
-            bytes[at + 6],
-            bytes[at + 7],
-        ]),
+        Size::Double => double(bytes, at),
     }
 }
 

@@ -1,25 +1,42 @@
 use Rattle.std.proofs.Common.{rules, ◌≡◌, suc, ◌-◌, ◌∙◌, Bool, true, false, sym, ap, arith, if◌then◌else◌}
 use Rattle.vt_riscv.specs.declared.machine.Stop.TheVariants.{Ended, Spent}
-use Rattle.vt_riscv.specs.Steps.{Ran}
+use Rattle.vt_riscv.specs.Steps.{Ran, run_of}
+use Rattle.vt_riscv.specs.Sprints.{rest_of}
 use Rattle.vt_riscv.proofs.RunLemmas.{run-on, run-stop, run-none}
 use Rattle.vt_riscv.proofs.machine.Machine.run.Goals as goal
 
 pub returns-in-Some-clause-outcome : goal.returns-in-Some-clause-outcome
 returns-in-Some-clause-outcome g c =
-    let more : c.steps.left ≡ suc (c.steps.left - 1) = omega arith in
-    let whole = sym c.steps.invariant ∙ run-stop c.args.code.now c.steps.left (c.steps.left - 1) c.steps.self c.step.new.self c.step.result c.in-Some.stop more c.step.ensures.stop c.step.ensures.machine c.in-Some.is in
+    let code = c.args.code.now in
+    let off : c.sprint-sprint.result.called ≡ false = search rules in
+    let run : run_of code c.steps.left c.steps.self ≡ run_of code c.sprint-sprint.result.left c.sprint-sprint.new.self = c.sprint-sprint.ensures.run ∙ ap (rest_of code c.sprint-sprint.new.self c.sprint-sprint.result.left) off in
+    let more : c.sprint-sprint.result.left ≡ suc (c.sprint-sprint.result.left - 1) = omega arith in
+    let whole = sym c.steps.invariant ∙ run ∙ run-stop code c.sprint-sprint.result.left (c.sprint-sprint.result.left - 1) c.sprint-sprint.new.self c.step.new.self c.step.result c.in-Some.stop more c.step.ensures.stop c.step.ensures.machine c.in-Some.is in
     sym (ap (λ (t : Ran _). t.outcome) whole)
 
 pub returns-in-Some-clause-machine : goal.returns-in-Some-clause-machine
 returns-in-Some-clause-machine g c =
-    let more : c.steps.left ≡ suc (c.steps.left - 1) = omega arith in
-    let whole = sym c.steps.invariant ∙ run-stop c.args.code.now c.steps.left (c.steps.left - 1) c.steps.self c.step.new.self c.step.result c.in-Some.stop more c.step.ensures.stop c.step.ensures.machine c.in-Some.is in
+    let code = c.args.code.now in
+    let off : c.sprint-sprint.result.called ≡ false = search rules in
+    let run : run_of code c.steps.left c.steps.self ≡ run_of code c.sprint-sprint.result.left c.sprint-sprint.new.self = c.sprint-sprint.ensures.run ∙ ap (rest_of code c.sprint-sprint.new.self c.sprint-sprint.result.left) off in
+    let more : c.sprint-sprint.result.left ≡ suc (c.sprint-sprint.result.left - 1) = omega arith in
+    let whole = sym c.steps.invariant ∙ run ∙ run-stop code c.sprint-sprint.result.left (c.sprint-sprint.result.left - 1) c.sprint-sprint.new.self c.step.new.self c.step.result c.in-Some.stop more c.step.ensures.stop c.step.ensures.machine c.in-Some.is in
     sym (ap (λ (t : Ran _). t.machine) whole)
+
+pub steps-preserved-in_default : goal.steps-preserved-in_default
+steps-preserved-in_default g c =
+    let code = c.args.code.now in
+    let off : c.sprint-sprint.result.called ≡ false = search rules in
+    let run : run_of code c.steps.left c.steps.self ≡ run_of code c.sprint-sprint.result.left c.sprint-sprint.new.self = c.sprint-sprint.ensures.run ∙ ap (rest_of code c.sprint-sprint.new.self c.sprint-sprint.result.left) off in
+    let more : c.sprint-sprint.result.left ≡ suc (c.sprint-sprint.result.left - 1) = omega arith in
+    sym (run ∙ run-on code c.sprint-sprint.result.left (c.sprint-sprint.result.left - 1) c.sprint-sprint.new.self c.step.new.self c.step.result more c.step.ensures.stop c.step.ensures.machine c.in_default.is) ∙ c.steps.invariant
 
 pub steps-preserved : goal.steps-preserved
 steps-preserved g c =
-    let more : c.steps.left ≡ suc (c.steps.left - 1) = omega arith in
-    sym (run-on c.args.code.now c.steps.left (c.steps.left - 1) c.steps.self c.step.new.self c.step.result more c.step.ensures.stop c.step.ensures.machine c.in_default.is) ∙ c.steps.invariant
+    let code = c.args.code.now in
+    let off : c.sprint-sprint.result.called ≡ false = search rules in
+    let run : run_of code c.steps.left c.steps.self ≡ run_of code c.sprint-sprint.result.left c.sprint-sprint.new.self = c.sprint-sprint.ensures.run ∙ ap (rest_of code c.sprint-sprint.new.self c.sprint-sprint.result.left) off in
+    sym run ∙ c.steps.invariant
 
 pub returns-then-self-eq-RETURN-clause-outcome : goal.returns-then-self-eq-RETURN-clause-outcome
 returns-then-self-eq-RETURN-clause-outcome g c =
