@@ -1,13 +1,13 @@
 -- The laws of `Rumour`.
-use Rattle.std.proofs.Common.{◌≡◌, ℕ, ◌-◌, ◌<◌, ◌^◌, take, arith}
+use Rattle.std.proofs.Common.{◌≡◌, ℕ, ◌-◌, ◌<◌, ◌^◌, arith}
 use Rattle.std.specs.Prelude.{nat_eq}
 use Rattle.std.proofs.Math.Nat.{mod-lt}
-use Rattle.vt_model.specs.Counts.{one_more, one_fewer, fewer-more}
+use Rattle.vt_model.specs.Counts.{one_fewer, fewer-more}
 use Rattle.vt_model.specs.Handler.{IsSendable, AreWords}
 use Rattle.vt_model.specs.Within.{IsStartWithin, IsEventWithin, none_few, one_few, either_few, few_within}
 use Rattle.vt_parts.specs.Sending.{entry_send, entry_sends_few}
 use Rattle.vt_rumour.specs.declared.Rumour.{Rumour}
-use Rattle.vt_rumour.specs.declared.TheConstants.{FRIENDS, TRAVEL, ROUNDS}
+use Rattle.vt_rumour.specs.declared.TheConstants.{FRIENDS, TRAVEL}
 use Rattle.vt_rumour.specs.Rumour.{rumour_start, rumour_forward}
 
 -- a rumour goes to a known process, and later

@@ -78,7 +78,15 @@ impl EventModel for Rumour {
         self.tell(payload, out);
     }
 
-    fn reverse(&self, _lp: u32, _now: When, _payload: u32, state: &mut u64, _bits: Bits, _kept: ()) {
+    fn reverse(
+        &self,
+        _lp: u32,
+        _now: When,
+        _payload: u32,
+        state: &mut u64,
+        _bits: Bits,
+        _kept: (),
+    ) {
         *state = state.wrapping_sub(1);
     }
 

@@ -19,7 +19,7 @@ send-requires g c =
     let here : i < length xs = c.entries-test.true in
     let entry = get_or xs i 0 in
     let many : length (entry_sends o.lps c.args.delay c.args.priority c.args.payload (take i xs)) ≡ i =
-      length-map (take i xs) (entry_send o.lps c.args.delay c.args.priority c.args.payload) ∙ length-take-le i xs (omega (arith, here)) in
+    length-map (take i xs) (entry_send o.lps c.args.delay c.args.priority c.args.payload) ∙ length-take-le i xs (omega (arith, here)) in
     let lps : c.entries.out.lps ≡ o.lps = ap (λ (w : Outgoing _). w.lps) c.entries.invariant in
     let time : c.entries.out.time ≡ o.time = ap (λ (w : Outgoing _). w.time) c.entries.invariant in
     let first : c.entries.out.first ≡ o.first = ap (λ (w : Outgoing _). w.first) c.entries.invariant in
@@ -44,7 +44,7 @@ entries-preserved g c =
     let here : i < length xs = c.entries-test.true in
     let entry = get_or xs i 0 in
     let sent : with_requests c.entries.out (record { dest = entry % c.lps-lps.result; delay = c.args.delay; priority = c.args.priority; payload = c.args.payload } ∷ []) [] ≡ with_requests c.entries.out (f entry ∷ []) [] =
-      ap (λ (n : ℕ). with_requests c.entries.out (record { dest = entry % n; delay = c.args.delay; priority = c.args.priority; payload = c.args.payload } ∷ []) []) c.lps-lps.ensures in
+    ap (λ (n : ℕ). with_requests c.entries.out (record { dest = entry % n; delay = c.args.delay; priority = c.args.priority; payload = c.args.payload } ∷ []) []) c.lps-lps.ensures in
     let more : map f (take (i + 1) xs) ≡ map f (take i xs) ++ f entry ∷ [] = ap (map f) (take_more xs i 0 here) ∙ map-append f (take i xs) (entry ∷ []) in
     sent_after o c.entries.out c.send.new.self (map f (take i xs)) [] (f entry) c.entries.invariant (c.send.ensures ∙ sent)
     ∙ ap (λ (ys : List (SendRequest _)). with_requests o ys []) (sym more)

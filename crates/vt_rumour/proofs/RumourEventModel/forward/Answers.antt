@@ -15,6 +15,6 @@ returns-clause-out c =
     let heard : RecordRequest = record { kind = HEARD; value = one_more c.args.state.now } in
     let lps : c.emit.new.self.lps ≡ o.lps = ap (λ (w : Outgoing ℕ). w.lps) c.emit.ensures in
     let passed : c.tell.new.out ≡ with_requests c.emit.new.self (told m o.lps c.args.payload) [] =
-      c.tell.ensures ∙ ap (λ (n : ℕ). with_requests c.emit.new.self (told m n c.args.payload) []) lps in
+    c.tell.ensures ∙ ap (λ (n : ℕ). with_requests c.emit.new.self (told m n c.args.payload) []) lps in
     recorded_then_both o c.emit.new.self c.tell.new.out c.tell.new.out heard (told m o.lps c.args.payload) [] c.emit.ensures passed (no_requests c.tell.new.out)
     ∙ ap (λ (xs : List (SendRequest ℕ)). with_requests o xs (heard ∷ [])) (append-nil (told m o.lps c.args.payload))

@@ -1,6 +1,5 @@
-use Rattle.std.proofs.Common.{◌≡◌, ◌<◌, arith}
+use Rattle.std.proofs.Common.{arith}
 use Rattle.vt_model.proofs.Sizes.{out_fits}
-use Rattle.vt_model.specs.Settings.{end_of}
 use Rattle.vt_lookup.proofs.looking.Looking.look_at_next.Goals as goal
 
 pub new-out-requires : goal.new-out-requires

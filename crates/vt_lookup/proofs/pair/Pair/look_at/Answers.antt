@@ -28,7 +28,7 @@ returns-in-None g c =
     let steady = c.args.self.now.steady in
     let lps : c.new-again.result.lps ≡ c.args.config.lps = ap (λ (o : Outgoing _). o.lps) c.new-again.ensures.whole in
     let undone : c.undo.new.process.state ≡ state_undone H e (event_gives H c.args.config.lps e tried.state tried.stream) =
-      c.undo.ensures
-      ∙ (λ j. H.reverse e.dest e.key.time e.payload (c.execute-left.ensures.state j) (c.execute-left.ensures.bits j) (c.execute-left.ensures.kept j))
-      ∙ ap (λ (n : ℕ). state_undone H e (event_gives H n e tried.state tried.stream)) lps in
+    c.undo.ensures
+    ∙ (λ j. H.reverse e.dest e.key.time e.payload (c.execute-left.ensures.state j) (c.execute-left.ensures.bits j) (c.execute-left.ensures.kept j))
+    ∙ ap (λ (n : ℕ). state_undone H e (event_gives H n e tried.state tried.stream)) lps in
     record { undone = subst (λ s. g.M.State.PartialEq.eq s steady.state ≡ true) undone (same_of _ _ c.ne.ensures c.if-ne.false) }
