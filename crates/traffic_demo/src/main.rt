@@ -4,7 +4,7 @@
 use std::process::ExitCode;
 use vt_meter::Terminal;
 use vt_options::{OwnOption, ProgramTexts};
-use vt_runner::{Streams, hint_of_process, run_program};
+use vt_runner::{Streams, hint_of_process, run_program, turns_hint_of_process};
 use vt_traffic::Traffic;
 
 static TEXTS: ProgramTexts = ProgramTexts {
@@ -73,5 +73,6 @@ fn main(rt: HostRuntime) -> ExitCode {
         ),
     );
     terminal.hint(status, || hint_of_process(&rt, &TEXTS, &OPTIONS));
+    terminal.hint_on_turns(|| turns_hint_of_process(&rt, &TEXTS, &OPTIONS));
     ExitCode::from(status)
 }

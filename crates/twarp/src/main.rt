@@ -3,9 +3,10 @@
 
 use std::process::ExitCode;
 use vt_meter::Terminal;
-use vt_program::{MachineFiles, hint, program, tell_refusal, words_of};
+use vt_program::{MachineFiles, hint, program, tell_refusal, turns_hint, words_of};
 
-/// Where standard error is a terminal, a long run shows there how far it is, and a refused command line what is allowed.
+/// Where standard error is a terminal, a long run shows there how far it is, a refused command line what is allowed, and a run without
+/// enough turns how many allow more.
 fn main(rt: HostRuntime) -> ExitCode {
     let terminal = Terminal::new(&rt, rt.stderr());
     let mut out = terminal.output(rt.stdout());
@@ -30,5 +31,6 @@ fn main(rt: HostRuntime) -> ExitCode {
         ),
     );
     terminal.hint(status, || hint(rt.alloc(), words.as_slice(), &files));
+    terminal.hint_on_turns(|| turns_hint(rt.alloc(), words.as_slice()));
     ExitCode::from(status)
 }

@@ -13,15 +13,26 @@ use crate::programs::{ProgramRefusal, fault_of, program_model};
 use std::alloc::Global;
 use std::convert::AsStr;
 use vt_command::read_request;
+use vt_guest::Refusal;
 use vt_key::Fault;
 use vt_model::Config;
-use vt_options::{ProgramChoice, Request};
+use vt_options::{ProgramChoice, Request, shown_word};
 
 /// The line of an option that is bad, and what is said of it. None: memory was refused.
 fn hint_on_program(alloc: Global, option: &str, said: &str) -> Option<String>
     ensures { IfSome result (λ line. string_bytes line ≡ program_line option.now said.now) }
 {
     format!(in alloc; "twarp: --{option}: {said}").ok()
+}
+
+/// What is said of a refusal. The name of an object that can't be set is told as a terminal is shown a word. None: memory was refused.
+fn said_of(alloc: Global, refusal: &ProgramRefusal) -> Option<String> {
+    if let ProgramRefusal::Load(Refusal::Set(name, fault)) = refusal {
+        let shown = shown_word(alloc, name.as_str())?;
+        let shown = shown.as_str();
+        return format!(in alloc; "{shown} can't be set: {fault}").ok();
+    }
+    refusal.to_string(alloc).ok()
 }
 
 /// A line on why a program isn't taken. None: memory was refused.
@@ -31,7 +42,7 @@ fn line_of(alloc: Global, refusal: ProgramRefusal) -> Option<String>
     let Fault::BadOption(option) = fault_of(&refusal) else {
         return None;
     };
-    let said = refusal.to_string(alloc).ok()?;
+    let said = said_of(alloc, &refusal)?;
     hint_on_program(alloc, option, said.as_str())
 }
 

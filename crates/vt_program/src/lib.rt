@@ -32,6 +32,7 @@ use std::convert::AsStr;
 use std::io::{Read, Write};
 use std::sync::Wait;
 use std::thread::Threads;
+pub use vt_command::turns_hint;
 use vt_command::{model_table, texts};
 use vt_key::Fault;
 use vt_options::{Chosen, Task};

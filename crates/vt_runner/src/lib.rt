@@ -8,10 +8,11 @@
 mod one_model;
 mod process;
 mod simulation;
+mod starting;
 mod task;
 
 pub use one_model::{Streams, model_program};
-pub use process::{hint_of_process, run_program, words_of};
+pub use process::{hint_of_process, run_program, turns_hint_of_process, words_of};
 pub use simulation::simulate;
 pub use task::carry_out;
 pub use vt_tasks::{models_program, replay, tell_refusal};

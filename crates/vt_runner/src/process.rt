@@ -7,8 +7,8 @@ ghost use Rattle.clap.specs.Words.{Text};
 ghost use Rattle.vt_key.specs.Faults.{option_named};
 ghost use Rattle.vt_key.specs.declared.fault.Fault.{Fault};
 ghost use Rattle.vt_key.specs.declared.fault.Fault.TheVariants.{Memory};
-ghost use Rattle.vt_options.specs.Hints.{IsHintOn};
-ghost use Rattle.vt_options.specs.Own.{HaveDefaults, AreWithin, own_line};
+ghost use Rattle.vt_options.specs.Hints.{IsHintOn, TellsTurns};
+ghost use Rattle.vt_options.specs.Own.{HaveDefaults, AreWithin, only, own_line};
 ghost use Rattle.vt_options.specs.Taken.{own_names, taken_in};
 ghost use Rattle.vt_tasks.specs.Refusals.{TellsRefusalOf, status_of};
 ghost use Rattle.vt_runner.specs.OneModel.{IsDoneOf, EndsOf, IsReadOf, IsRefusedUnasked};
@@ -22,7 +22,7 @@ use std::sync::Wait;
 use std::thread::Threads;
 use vt_key::Fault;
 use vt_model::Model as EventModel;
-use vt_options::{ModelOptions, ModelTable, OwnOption, ProgramTexts, hint, taken_name};
+use vt_options::{ModelOptions, ModelTable, OwnOption, ProgramTexts, hint, taken_name, turns_hint};
 use vt_tasks::tell_refusal;
 use vt_watch::Watch;
 
@@ -139,4 +139,32 @@ pub fn hint_of_process<H: Env + AllocGlobal>(
         programs: false,
     };
     hint(rt.alloc(), texts, &table, words.as_slice())
+}
+
+/// A line for a terminal where [`run_program`] has refused a run for its turns: how many would allow more. None: the words of the process
+/// ask for no run, its turns are the most that there may be, or memory was refused.
+///
+/// No contract says what the words of the process are: a line is right for some words.
+pub fn turns_hint_of_process<H: Env + AllocGlobal>(
+    rt: &H,
+    texts: &ProgramTexts,
+    own: &[OwnOption],
+) -> Option<String>
+    requires defaults { HaveDefaults own.now }
+    ensures words { IfSome result (λ line. (words : List Text) × TellsTurns texts.now.name.now (only own.now) words (string_bytes line)) }
+{
+    let Ok(words) = words_of(rt) else {
+        return None;
+    };
+    let models = [ModelOptions {
+        name: "",
+        heading: OWN_HEADING,
+        options: own,
+    }];
+    let table = ModelTable {
+        naming: None,
+        models: &models,
+        programs: false,
+    };
+    turns_hint(rt.alloc(), texts, &table, words.as_slice())
 }

@@ -7,6 +7,7 @@ ghost use Rattle.vt_station.specs.declared.pieces.Standing.TheVariants.{GoesOn};
 ghost use Rattle.vt_runner.specs.Pieces.{AreWritten, IsUnread, IsDue};
 ghost use Rattle.vt_tasks.specs.Runs.{WritesWhole, StopsInThreads, StopsAsSet};
 
+use crate::starting::test_threads;
 use std::alloc::Global;
 use std::io::Write;
 use std::sync::Wait;
@@ -173,6 +174,7 @@ where
     }
     watch.begin(config.end().ticks(), Some(config.workers));
     print_records(out, &[], options.text)?;
+    test_threads(rt, config.workers)?;
     let (station, places) = Station::new(alloc, model, config)?;
     let bells = Bells::new(alloc, config.workers)?;
     let mut crew = Crew::new(alloc, &station, &bells, model, config, places)?;

@@ -43,6 +43,10 @@ refused-early g model o old now written result fault is told =
     if_err (StopsInThreads (g.M.Model.handlers model) o old now) result fault told
     (stops-lasting {handlers = g.M.Model.handlers model} {config = o.config} (lawful g model o.config) (none-written old now written) fault (inl (inl is)))
 
+pub returns-in_err-test_threads-clause-err : goal.returns-in_err-test_threads-clause-err
+returns-in_err-test_threads-clause-err g c =
+    refused-early g c.args.model.now c.args.options.now _ _ c.in_ok-print_records.ensures.ok c.from_residual-in_err-test_threads.result c.in_err-test_threads.field-0.0 c.in_err-test_threads.ensures.refused c.from_residual-in_err-test_threads.ensures.1
+
 pub returns-in_err-station-clause-err : goal.returns-in_err-station-clause-err
 returns-in_err-station-clause-err g c =
     refused-early g c.args.model.now c.args.options.now _ _ c.in_ok-print_records.ensures.ok c.from_residual-in_err-station.result c.in_err-station.field-0.0 c.in_err-station.ensures.refused c.from_residual-in_err-station.ensures.1
