@@ -5,7 +5,7 @@ use std::process::ExitCode;
 use vt_meter::Terminal;
 use vt_network::Network;
 use vt_options::{OwnOption, ProgramTexts};
-use vt_runner::{Streams, hint_of_process, run_program, turns_hint_of_process};
+use vt_runner::{Made, Streams, hint_of_process, run_program, turns_hint_of_process};
 
 static TEXTS: ProgramTexts = ProgramTexts {
     name: "network_demo",
@@ -62,7 +62,10 @@ fn main(rt: HostRuntime) -> ExitCode {
             &TEXTS,
             &OPTIONS,
             terminal.meter(),
-            |values| Network::new(values[0], values[1], values[2], values[3]).ok(),
+            |values| match Network::new(values[0], values[1], values[2], values[3]) {
+                Ok(model) => Some(Made::any(model)),
+                Err(_) => None,
+            },
         ),
     );
     terminal.hint(status, || hint_of_process(&rt, &TEXTS, &OPTIONS));

@@ -1,20 +1,22 @@
-//! The traffic model as a whole program: `traffic_demo run --lps 12 --end 100` prints the records of twelve junctions.
+//! The traffic model as a whole program: `traffic_demo run --rows 3 --end 100` prints the records of twelve junctions.
 #![tactic(auto)]
+
+ghost use Rattle.std.specs.Prelude.{◌≡◌, None};
 
 use std::process::ExitCode;
 use vt_meter::Terminal;
 use vt_options::{OwnOption, ProgramTexts};
-use vt_runner::{Streams, hint_of_process, run_program, turns_hint_of_process};
+use vt_runner::{Made, Streams, hint_of_process, run_program, turns_hint_of_process};
 use vt_traffic::Traffic;
 
 static TEXTS: ProgramTexts = ProgramTexts {
     name: "traffic_demo",
     about: "Simulates cars on a grid of one-way roads with signalled junctions",
     usage: "traffic_demo <COMMAND>",
-    in_short: "A first run: traffic_demo run --lps 12 --end 100 (three rows of four junctions)",
+    in_short: "A first run: traffic_demo run --rows 3 --end 100 (three rows of four junctions)",
 };
 
-static OPTIONS: [OwnOption; 5] = [
+static OPTIONS: [OwnOption; 6] = [
     OwnOption {
         name: "columns",
         least: 1,
@@ -50,7 +52,26 @@ static OPTIONS: [OwnOption; 5] = [
         default: 25,
         help: "Percent of cars that turn, 0 to 100 [default: 25]",
     },
+    OwnOption {
+        name: "rows",
+        least: 0,
+        most: 65_536,
+        default: 0,
+        help: "Rows of junctions, 0 to 65536; 0: as many as --lps makes [default: 0]",
+    },
 ];
+
+/// A grid of so many rows and columns, or one of any number of junctions if there are no rows.
+fn grid_of(grid: Traffic, columns: u32, rows: u32) -> Made<Traffic>
+    ensures grid { result.model ≡ grid }
+    ensures any { rows ≡ 0 → result.processes ≡ None }
+{
+    if rows == 0 {
+        Made::any(grid)
+    } else {
+        Made::fixed(grid, rows.saturating_mul(columns))
+    }
+}
 
 /// Where standard error is a terminal, a long run shows there how far it is, and a refused command line what is allowed.
 fn main(rt: HostRuntime) -> ExitCode {
@@ -69,7 +90,10 @@ fn main(rt: HostRuntime) -> ExitCode {
             &TEXTS,
             &OPTIONS,
             terminal.meter(),
-            |values| Traffic::new(values[0], values[1], values[2], values[3], values[4]).ok(),
+            |values| match Traffic::new(values[0], values[1], values[2], values[3], values[4]) {
+                Ok(grid) => Some(grid_of(grid, values[0], values[5])),
+                Err(_) => None,
+            },
         ),
     );
     terminal.hint(status, || hint_of_process(&rt, &TEXTS, &OPTIONS));

@@ -1,5 +1,5 @@
 -- The settings of a command line that gives none.
-use Rattle.std.specs.Prelude.{ℕ, List, [], ◌∷◌}
+use Rattle.std.specs.Prelude.{ℕ, List, [], ◌∷◌, Some, false}
 use Rattle.std.proofs.Common.{lit≤}
 use Rattle.vt_model.specs.declared.settings.Config.{Config}
 use Rattle.vt_options.specs.declared.choices.RunSettings.{RunSettings}
@@ -33,13 +33,14 @@ default_phold = 1 ∷ 0 ∷ 1 ∷ 1 ∷ []
 abbrev pub default_stations : List ℕ
 default_stations = 1 ∷ 1 ∷ 1 ∷ []
 
--- two processes, one worker, times below 10 and seed 0, in one thread
+-- two processes, one worker, times below 10 and seed 0, in one thread. Records are printed, and no final values
 abbrev pub default_settings : RunSettings
 default_settings = record {
   synch = synch.Sequential;
   config = default_config;
   turns = 10000000;
-  text = version.Two;
+  records = Some version.Two;
+  finals = false;
 }
 
 -- the same settings for a replay, with serials from 0

@@ -5,11 +5,11 @@ use Rattle.vt_options.specs.Line.{given_by, texts_by}
 use Rattle.vt_options.specs.Own.{run_names, replay_names, app_for}
 use Rattle.vt_command.specs.Table.{twarp_models}
 
--- the options of `run`, in the order in which they are tested
+-- the options of `run` that take a value, in the order in which they are tested
 abbrev pub run_options : List Text
 run_options = run_names twarp_models
 
--- the options of `replay`, in the order in which they are tested
+-- the options of `replay`, all of which take a value, in the order in which they are tested
 abbrev pub replay_options : List Text
 replay_options = replay_names twarp_models
 
@@ -25,7 +25,7 @@ given_in words name = given_by twarp_app words name
 abbrev pub all_given_in : List Text → Text → List Text
 all_given_in words name = texts_by twarp_app words name
 
--- a line of a subcommand that gives each of its options a text behind `=`
+-- a line of a subcommand that gives each of these options a text behind `=`
 abbrev pub line_with : Text → List Text → (Text → Text) → List Text
 line_with subcommand options text_of =
     codes "twarp" ∷ subcommand ∷ map (λ name. codes "--" ++ (name ++ (codes "=" ++ text_of name))) options

@@ -16,7 +16,7 @@ pub fn defaults_are_read()
     ensures replay_stations { AskReplay (codes "twarp" ∷ codes "replay" ∷ codes "--model=stations" ∷ []) default_replay_settings 2 default_stations }
 {}
 
-/// A line may give each option any text behind `=`. It belongs to its subcommand, and each option has its text.
+/// A line may give each option that takes a value any text behind `=`. It belongs to its subcommand, and each option has its text.
 pub fn texts_are_given()
     ensures run { (text_of : Text → Text) → AreOfRun (line_with (codes "run") run_options text_of) }
     ensures given { (text_of : Text → Text) → map (given_in (line_with (codes "run") run_options text_of)) run_options ≡ map (λ name. Some (text_of name)) run_options }
@@ -24,11 +24,13 @@ pub fn texts_are_given()
     ensures given_to_replay { (text_of : Text → Text) → map (given_in (line_with (codes "replay") replay_options text_of)) replay_options ≡ map (λ name. Some (text_of name)) replay_options }
 {}
 
-/// An option's text may also be a word of its own. An option that isn't given has no text.
+/// An option's text may also be a word of its own. An option that isn't given has no text. A flag has the text `true` or `false`.
 pub fn values_are_read()
     ensures apart { given_in (codes "twarp" ∷ codes "run" ∷ codes "--lps" ∷ codes "3" ∷ codes "--end=7" ∷ []) (codes "lps") ≡ Some (codes "3") }
     ensures joined { given_in (codes "twarp" ∷ codes "run" ∷ codes "--lps" ∷ codes "3" ∷ codes "--end=7" ∷ []) (codes "end") ≡ Some (codes "7") }
     ensures absent { given_in (codes "twarp" ∷ codes "run" ∷ codes "--lps" ∷ codes "3" ∷ codes "--end=7" ∷ []) (codes "seed") ≡ None }
+    ensures flag { given_in (codes "twarp" ∷ codes "run" ∷ codes "--finals" ∷ []) (codes "finals") ≡ Some (codes "true") }
+    ensures no_flag { given_in (codes "twarp" ∷ codes "run" ∷ []) (codes "finals") ≡ Some (codes "false") }
     ensures one { (text : Text) → given_in (codes "twarp" ∷ codes "run" ∷ (codes "--seed=" ++ text) ∷ []) (codes "seed") ≡ Some text }
 {}
 
@@ -48,6 +50,8 @@ pub fn other_lines_have_no_meaning()
     ensures unknown { HasNoMeaning (codes "twarp" ∷ codes "run" ∷ codes "--speed" ∷ codes "3" ∷ []) }
     ensures twice { HasNoMeaning (codes "twarp" ∷ codes "run" ∷ codes "--lps" ∷ codes "3" ∷ codes "--lps" ∷ codes "3" ∷ []) }
     ensures no_value { HasNoMeaning (codes "twarp" ∷ codes "run" ∷ codes "--lps" ∷ []) }
+    ensures flag_with_value { HasNoMeaning (codes "twarp" ∷ codes "run" ∷ codes "--finals=yes" ∷ []) }
+    ensures finals_of_replay { HasNoMeaning (codes "twarp" ∷ codes "replay" ∷ codes "--finals" ∷ []) }
     ensures of_replay_alone { HasNoMeaning (codes "twarp" ∷ codes "run" ∷ codes "--serial" ∷ codes "1" ∷ []) }
     ensures of_run_alone { HasNoMeaning (codes "twarp" ∷ codes "replay" ∷ codes "--synch" ∷ codes "1" ∷ []) }
 {}
@@ -65,6 +69,9 @@ pub fn first_bad_is_of_the_table()
     ensures rise { HasBadOption (codes "twarp" ∷ codes "run" ∷ codes "--population" ∷ codes "17" ∷ codes "--rise" ∷ codes "256" ∷ []) (codes "rise") }
     ensures text { HasBadOption (codes "twarp" ∷ codes "run" ∷ codes "--text" ∷ codes "3" ∷ []) (codes "text") }
     ensures before_text { HasBadOption (codes "twarp" ∷ codes "run" ∷ codes "--text" ∷ codes "0" ∷ codes "--turns" ∷ codes "0" ∷ []) (codes "turns") }
+    ensures finals { HasBadOption (codes "twarp" ∷ codes "run" ∷ codes "--finals" ∷ codes "--text" ∷ codes "1" ∷ codes "--records=some" ∷ []) (codes "finals") }
+    ensures before_finals { HasBadOption (codes "twarp" ∷ codes "run" ∷ codes "--finals" ∷ codes "--text" ∷ codes "3" ∷ []) (codes "text") }
+    ensures records { HasBadOption (codes "twarp" ∷ codes "run" ∷ codes "--finals" ∷ codes "--records=some" ∷ codes "--fuel=0" ∷ []) (codes "records") }
     ensures text_of_replay { HasBadOption (codes "twarp" ∷ codes "replay" ∷ codes "--text" ∷ codes "x" ∷ codes "--serial" ∷ codes "x" ∷ []) (codes "serial") }
 {}
 

@@ -26,6 +26,7 @@ Options with ranges and defaults (twarp run --help and twarp replay --help say w
   a program    --program FILE (in the place of --model)  --set NAME=VALUE (any number of times)
                --data FILE  --fuel 1..4294967296 [1000000]
   run alone    --synch 1|3 [1]  --turns 1..9223372036854775808 [10000000]
+               --finals  --records yes|no [yes]
   replay alone --serial 0..9223372036854775808 [0]";
 
 /// What help shows of the program: it needs a command.

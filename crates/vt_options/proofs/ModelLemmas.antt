@@ -9,7 +9,7 @@ use Rattle.vt_key.specs.declared.fault.Fault.{Fault}
 use Rattle.vt_key.specs.declared.fault.Fault.TheVariants.{Memory, NotLawful, Busy, Closed, Exhausted, TurnsSpent, BadOption, BadStep, Output}
 use Rattle.vt_key.specs.Faults.{fault_number, option_named}
 use Rattle.vt_options.specs.declared.own.ModelOptions.{ModelOptions}
-use Rattle.vt_options.specs.Line.{ValueOption, once}
+use Rattle.vt_options.specs.Line.{UsedOption, once}
 use Rattle.vt_options.specs.Own.{AreInRange, GiveValues, NamesBad, first_bad_in, index_from, model_names, number_table, table_names, tables_of}
 use Rattle.vt_options.specs.Table.{Given, NumberOption, first_bad_of, first_name}
 use Rattle.vt_options.proofs.OwnLemmas.{only}
@@ -99,7 +99,7 @@ module _ (models : List ModelOptions) (i : ℕ) (d : ModelOptions) (h : i < leng
   names_more = ap table_names tables_more ∙ names_behind (tables_of (take i models)) (table ∷ []) ∙ ap (λ l. table_names (tables_of (take i models)) ++ l) (append-nil (map (λ (o : NumberOption). o.name) table))
 
   -- and they are added to a list
-  pub added_more : (before list new : List ValueOption) → list ≡ before ++ map once (table_names (tables_of (take i models))) → new ≡ list ++ map once (map (λ o. o.name) table) → new ≡ before ++ map once (table_names (tables_of (take (i + 1) models)))
+  pub added_more : (before list new : List UsedOption) → list ≡ before ++ map once (table_names (tables_of (take i models))) → new ≡ list ++ map once (map (λ o. o.name) table) → new ≡ before ++ map once (table_names (tables_of (take (i + 1) models)))
   added_more before list new so_far added =
       added ∙ ap (λ l. l ++ map once (map (λ (o : NumberOption). o.name) table)) so_far
       ∙ append_assoc before (map once (table_names (tables_of (take i models)))) (map once (map (λ (o : NumberOption). o.name) table))

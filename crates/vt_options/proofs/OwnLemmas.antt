@@ -89,11 +89,11 @@ module _ (name : Text) (models : Models) (words : List Text) (found : Given) (te
   by_words Holds h = subst (Holds (given_by (app_for name models) words)) t (subst (λ (g : Given). Holds g texts) (λ i option. e option i) h)
 
   -- settings and a choice that they give
-  pub run_given : (s : RunSettings) (k : ℕ) (values : List ℕ) (p : Option ProgramChoice) → GiveRun models found texts s k values p → GiveRun models (given_by (app_for name models) words) (texts_by (app_for name models) words (codes "set")) s k values p
-  run_given s k values p = by_words (λ g l. GiveRun models g l s k values p)
+  pub run_given : (s : RunSettings) (k : ℕ) (values : List ℕ) (l : Option ℕ) (p : Option ProgramChoice) → GiveRun models found texts s k values l p → GiveRun models (given_by (app_for name models) words) (texts_by (app_for name models) words (codes "set")) s k values l p
+  run_given s k values l p = by_words (λ g ts. GiveRun models g ts s k values l p)
 
-  pub replay_given : (s : ReplaySettings) (k : ℕ) (values : List ℕ) (p : Option ProgramChoice) → GiveReplay models found texts s k values p → GiveReplay models (given_by (app_for name models) words) (texts_by (app_for name models) words (codes "set")) s k values p
-  replay_given s k values p = by_words (λ g l. GiveReplay models g l s k values p)
+  pub replay_given : (s : ReplaySettings) (k : ℕ) (values : List ℕ) (l : Option ℕ) (p : Option ProgramChoice) → GiveReplay models found texts s k values l p → GiveReplay models (given_by (app_for name models) words) (texts_by (app_for name models) words (codes "set")) s k values l p
+  replay_given s k values l p = by_words (λ g ts. GiveReplay models g ts s k values l p)
 
   module _ (fault : Fault) where
     -- a refusal for memory refuses any words

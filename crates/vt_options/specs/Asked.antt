@@ -11,8 +11,8 @@ use Rattle.vt_options.specs.Own.{Models, app_for, AskRunWith, AskReplayWith}
 
 -- the words are those of this task, with this choice
 abbrev pub AskTaskWith : Text → Models → List Text → Task → Chosen → Type 0
-AskTaskWith name models words (Run settings) c = AskRunWith name models words settings c.model c.values.items c.program
-AskTaskWith name models words (Replay settings) c = AskReplayWith name models words settings c.model c.values.items c.program
+AskTaskWith name models words (Run settings) c = AskRunWith name models words settings c.model c.values.items c.lps c.program
+AskTaskWith name models words (Replay settings) c = AskReplayWith name models words settings c.model c.values.items c.lps c.program
 
 abbrev pub IsAsked : Text → Models → List Text → Request → Type 0
 IsAsked name models words (request.Task task chosen) = AskTaskWith name models words task chosen

@@ -40,6 +40,15 @@ pub record TellsWord (program : Text) (line : Line) (words : List Text) (name te
   pub shown_is : IsShownWord word shown
   pub text_is : text ≡ option_takes program name takes shown
 
+-- the flag for final values needs a version of the text
+abbrev pub finals_need : Text → Text
+finals_need program = program ++ codes ": --finals needs --text 2"
+
+-- a line tells that the flag for final values can't be used
+pub record TellsFinals (program name text : Text) : Type 0 where
+  pub flag : name ≡ codes "finals"
+  pub text_is : text ≡ finals_need program
+
 -- a line tells that there is no command
 pub record TellsNoCommand (program : Text) (line : Line) (words : List Text) (text : Text) : Type 0 where
   pub none : subcommand_by line.app words ≡ None
@@ -57,15 +66,16 @@ pub record TellsUnreadable (program : Text) (line : Line) (words : List Text) (t
 pub record IsHintOn (program : Text) (line : Line) (words : List Text) (text : Text) : Type 0 where
   pub name : Text
   pub refused : IsRefusedAsOf line words name
-  pub told : TellsWord program line words name text ⊎ (TellsNoCommand program line words text ⊎ TellsUnreadable program line words text)
+  pub told : TellsWord program line words name text ⊎ (TellsNoCommand program line words text ⊎ (TellsUnreadable program line words text ⊎ TellsFinals program name text))
 
 -- a line tells how many turns allow more than those of the run that the words ask for
 pub record TellsTurns (program : Text) (models : Models) (words : List Text) (text : Text) : Type 0 where
   pub settings : RunSettings
   pub model : ℕ
   pub values : List ℕ
+  pub lps : Option ℕ
   pub choice : Option ProgramChoice
-  pub asked : AskRunWith program models words settings model values choice
+  pub asked : AskRunWith program models words settings model values lps choice
   pub more : ℕ
   pub is_more : settings.turns < more
   pub allowed : more ≤ MAX_TURNS

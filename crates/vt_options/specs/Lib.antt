@@ -9,3 +9,4 @@ pub mod Tasks
 pub mod Taken
 pub mod Shown
 pub mod Hints
+pub mod Processes

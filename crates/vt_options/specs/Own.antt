@@ -14,11 +14,11 @@ use Rattle.vt_options.specs.declared.programs.ProgramChoice.{ProgramChoice}
 use Rattle.vt_options.specs.declared.texts.OptionText.{OptionText}
 use Rattle.vt_options.specs.declared.choices.RunSettings.{RunSettings}
 use Rattle.vt_options.specs.declared.choices.ReplaySettings.{ReplaySettings}
-use Rattle.vt_options.specs.Line.{ValueOption, once, many_times, program_app, given_by, texts_by}
+use Rattle.vt_options.specs.Line.{UsedOption, once, many_times, flag, valued_names, program_app, given_by, texts_by}
 use Rattle.vt_options.specs.Requests.{Line, AreBy}
-use Rattle.vt_options.specs.Programs.{GivesChoice, bad_sets, fuel}
+use Rattle.vt_options.specs.Programs.{GivesChoice, bad_sets, fuel, value_given}
 use Rattle.vt_options.specs.Settings.{GiveRunSettings, GiveReplaySettings}
-use Rattle.vt_options.specs.Table.{Given, NumberOption, option, value_in, synch_in, version_in, bad, bad_number, first_name, first_bad_of, config_table, turns, serial}
+use Rattle.vt_options.specs.Table.{Given, NumberOption, option, value_in, synch_in, version_in, finals_in, records_said, bad, bad_number, first_name, first_bad_of, config_table, turns, serial, lps}
 
 -- ---- the table of one model
 
@@ -144,31 +144,35 @@ table_names [] = []
 table_names (table ∷ tables) = map (λ o. o.name) table ++ table_names tables
 
 -- the options of programs
-abbrev pub program_options : Bool → List ValueOption
+abbrev pub program_options : Bool → List UsedOption
 program_options programs = if programs then once (codes "program") ∷ many_times (codes "set") ∷ once (codes "data") ∷ once (codes "fuel") ∷ [] else []
 
+-- the options that say what a run prints beside the version of its text
+abbrev pub printing_options : List UsedOption
+printing_options = flag (codes "finals") ∷ once (codes "records") ∷ []
+
 -- the options of `run`, in the order in which they are tested
-abbrev pub run_options : Models → List ValueOption
+abbrev pub run_options : Models → List UsedOption
 run_options models =
     map once (naming_names models.naming)
     ++ (map once (codes "synch" ∷ codes "workers" ∷ codes "lps" ∷ codes "end" ∷ codes "seed" ∷ [])
     ++ (map once (table_names models.tables)
-    ++ (map once (codes "turns" ∷ codes "text" ∷ []) ++ program_options models.programs)))
+    ++ (map once (codes "turns" ∷ codes "text" ∷ []) ++ (printing_options ++ program_options models.programs))))
 
 -- the options of `replay`, in the order in which they are tested
-abbrev pub replay_options : Models → List ValueOption
+abbrev pub replay_options : Models → List UsedOption
 replay_options models =
     map once (naming_names models.naming)
     ++ (map once (codes "workers" ∷ codes "lps" ∷ codes "end" ∷ codes "seed" ∷ [])
     ++ (map once (table_names models.tables)
     ++ (map once (codes "serial" ∷ codes "text" ∷ []) ++ program_options models.programs)))
 
--- their names
+-- the names of those that take a value
 abbrev pub run_names : Models → List Text
-run_names models = map (λ o. o.name) (run_options models)
+run_names models = valued_names (run_options models)
 
 abbrev pub replay_names : Models → List Text
-replay_names models = map (λ o. o.name) (replay_options models)
+replay_names models = valued_names (replay_options models)
 
 abbrev pub app_for : Text → Models → App
 app_for name models = program_app name (run_options models) (replay_options models)
@@ -183,6 +187,8 @@ first_bad_of_run models given texts = first_name (
     ∷ first_bad_in given models.tables
     ∷ bad_number given turns
     ∷ bad (codes "text") (version_in (given (codes "text")))
+    ∷ bad (codes "finals") (finals_in given)
+    ∷ bad (codes "records") (records_said (given (codes "records")))
     ∷ first_bad_of_program models given texts ∷ [])
 
 -- the first option of `replay` that has no value
@@ -218,27 +224,29 @@ pub record GiveModel (models : Models) (given : Given) (k : ℕ) (vs : List ℕ)
   pub values : GiveValues given (get_or models.tables k []) vs
   pub within : AreInRange (get_or models.tables k []) vs
 
--- the settings of a run, the index of a model, values of its options and the program that the texts give. The options of all
--- models have values
-pub record GiveRun (models : Models) (given : Given) (texts : List Text) (s : RunSettings) (k : ℕ) (vs : List ℕ) (p : Option ProgramChoice) : Type 0 where
+-- the settings of a run, the index of a model, values of its options, the number of processes, if there is one, and the program that
+-- the texts give. The options of all models have values
+pub record GiveRun (models : Models) (given : Given) (texts : List Text) (s : RunSettings) (k : ℕ) (vs : List ℕ) (l : Option ℕ) (p : Option ProgramChoice) : Type 0 where
   pub settings : GiveRunSettings given s
   pub model : GiveModel models given k vs
+  pub processes : value_given given lps ≡ l
   pub program : GiveProgram models given texts p
   pub all_good : first_bad_of_run models given texts ≡ None
 
 -- the settings of a replay, the index of a model, values of its options and the program that the texts give
-pub record GiveReplay (models : Models) (given : Given) (texts : List Text) (s : ReplaySettings) (k : ℕ) (vs : List ℕ) (p : Option ProgramChoice) : Type 0 where
+pub record GiveReplay (models : Models) (given : Given) (texts : List Text) (s : ReplaySettings) (k : ℕ) (vs : List ℕ) (l : Option ℕ) (p : Option ProgramChoice) : Type 0 where
   pub settings : GiveReplaySettings given s
   pub model : GiveModel models given k vs
+  pub processes : value_given given lps ≡ l
   pub program : GiveProgram models given texts p
   pub all_good : first_bad_of_replay models given texts ≡ None
 
 -- the words are those of a run with these settings, model, values and program
-pub record AskRunWith (name : Text) (models : Models) (words : List Text) (s : RunSettings) (k : ℕ) (vs : List ℕ) (p : Option ProgramChoice) : Type 0 where
+pub record AskRunWith (name : Text) (models : Models) (words : List Text) (s : RunSettings) (k : ℕ) (vs : List ℕ) (l : Option ℕ) (p : Option ProgramChoice) : Type 0 where
   pub run : AreBy (app_for name models) (codes "run") words
-  pub options : GiveRun models (given_by (app_for name models) words) (texts_by (app_for name models) words (codes "set")) s k vs p
+  pub options : GiveRun models (given_by (app_for name models) words) (texts_by (app_for name models) words (codes "set")) s k vs l p
 
 -- the words are those of a replay with these settings, model, values and program
-pub record AskReplayWith (name : Text) (models : Models) (words : List Text) (s : ReplaySettings) (k : ℕ) (vs : List ℕ) (p : Option ProgramChoice) : Type 0 where
+pub record AskReplayWith (name : Text) (models : Models) (words : List Text) (s : ReplaySettings) (k : ℕ) (vs : List ℕ) (l : Option ℕ) (p : Option ProgramChoice) : Type 0 where
   pub replay : AreBy (app_for name models) (codes "replay") words
-  pub options : GiveReplay models (given_by (app_for name models) words) (texts_by (app_for name models) words (codes "set")) s k vs p
+  pub options : GiveReplay models (given_by (app_for name models) words) (texts_by (app_for name models) words (codes "set")) s k vs l p

@@ -57,4 +57,3 @@ pub record GivesChoice (given : Given) (texts : List Text) (p : ProgramChoice) :
   pub numbers : SetNumbers texts p.sets.items
   pub data_is : given (codes "data") ≡ option_map (λ name. name.now) p.data_file
   pub fuel_is : value_in given fuel ≡ Some p.fuel
-  pub lps_is : value_given given Table.lps ≡ p.lps

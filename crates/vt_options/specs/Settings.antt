@@ -4,7 +4,7 @@ use Rattle.vt_model.specs.declared.settings.Config.{Config}
 use Rattle.vt_options.specs.declared.choices.RunSettings.{RunSettings}
 use Rattle.vt_options.specs.declared.choices.ReplaySettings.{ReplaySettings}
 use Rattle.vt_options.specs.Table
-use Rattle.vt_options.specs.Table.{Given, value_in, synch_in, version_in}
+use Rattle.vt_options.specs.Table.{Given, value_in, synch_in, version_in, records_in, finals_in}
 
 -- the config that the texts give
 pub record GiveConfig (given : Given) (c : Config) : Type 0 where
@@ -18,7 +18,8 @@ pub record GiveRunSettings (given : Given) (s : RunSettings) : Type 0 where
   pub synch : synch_in (given (codes "synch")) ≡ Some s.synch
   pub config : GiveConfig given s.config
   pub turns : value_in given Table.turns ≡ Some s.turns
-  pub text : version_in (given (codes "text")) ≡ Some s.text
+  pub records : records_in given ≡ Some s.records
+  pub finals : finals_in given ≡ Some s.finals
 
 -- the settings of a replay that the texts give
 pub record GiveReplaySettings (given : Given) (s : ReplaySettings) : Type 0 where

@@ -1,5 +1,6 @@
 -- The table of options: what each may be, what it is where it isn't given, and which one is refused first.
-use Rattle.std.specs.Prelude.{ℕ, ◌==◌, ◌-◌, ◌^◌, List, [], ◌∷◌, Option, Some, None, if◌then◌else◌, codes, option_and_then}
+use Rattle.std.specs.Prelude.{ℕ, ◌==◌, ◌-◌, ◌^◌, Bool, true, false, List, [], ◌∷◌, Option, Some, None, if◌then◌else◌, codes, option_and_then, option_map}
+use Rattle.std.specs.Str.{bytes_eq}
 use Rattle.vt_key.specs.declared.limits.TheConstants.{MAX_WORKERS, MAX_PROCESSES, MAX_END, MAX_COUNT}
 use Rattle.vt_model.specs.Settings.{is_between}
 use Rattle.vt_text.specs.Numbers.{number_said}
@@ -72,6 +73,32 @@ version_numbered n = if n == 1 then Some One else if n == 2 then Some Two else N
 abbrev pub version_in : Option (List ℕ) → Option Version
 version_in None = Some Two
 version_in (Some text) = option_and_then version_numbered (number_said text)
+
+-- the parser gives a flag this text where it is used
+abbrev pub is_flagged : Option (List ℕ) → Bool
+is_flagged None = false
+is_flagged (Some text) = bytes_eq text (codes "true")
+
+-- whether final values are printed, by the flag and the version of the text: version 1 has none
+abbrev pub finals_with : Bool → Option Version → Option Bool
+finals_with true (Some One) = None
+finals_with flagged version = Some flagged
+
+abbrev pub finals_in : Given → Option Bool
+finals_in given = finals_with (is_flagged (given (codes "finals"))) (version_in (given (codes "text")))
+
+-- whether a text says that records are printed: they are if there is no text
+abbrev pub records_said : Option (List ℕ) → Option Bool
+records_said None = Some true
+records_said (Some text) = if bytes_eq text (codes "yes") then Some true else if bytes_eq text (codes "no") then Some false else None
+
+-- records in a version, or none
+abbrev pub shown_in : Version → Bool → Option Version
+shown_in version shown = if shown then Some version else None
+
+-- in which version records are printed, if they are
+abbrev pub records_in : Given → Option (Option Version)
+records_in given = option_and_then (λ version. option_map (shown_in version) (records_said (given (codes "records")))) (version_in (given (codes "text")))
 
 -- the name, where there is no value
 abbrev pub bad : {A : Type 0} → List ℕ → Option A → Option (List ℕ)

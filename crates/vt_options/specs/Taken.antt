@@ -11,7 +11,7 @@ is_among names name = list_any (λ other. bytes_eq other name) names
 
 -- the options of every model
 abbrev pub general_names : List Text
-general_names = codes "synch" ∷ codes "workers" ∷ codes "lps" ∷ codes "end" ∷ codes "seed" ∷ codes "turns" ∷ codes "serial" ∷ codes "text" ∷ []
+general_names = codes "synch" ∷ codes "workers" ∷ codes "lps" ∷ codes "end" ∷ codes "seed" ∷ codes "turns" ∷ codes "serial" ∷ codes "text" ∷ codes "finals" ∷ codes "records" ∷ []
 
 -- the name is that of an option of every model, or of help
 abbrev pub is_general : Text → Bool

@@ -3,19 +3,21 @@
 ghost use Rattle.std.specs.Prelude.{◌≡◌, ◌++◌, [], List, IfOk, IfErr, codes, false, map};
 ghost use Rattle.clap.specs.Words.{Text, fault_of, subcommand_of, subcommand_rows_of, first_value, found_of, HasKind};
 ghost use Rattle.vt_options.specs.Line.{names_of, once, options_of, texts_in};
-ghost use Rattle.vt_options.specs.Own.{AllHaveDefaults, GiveRun, GiveReplay, NamesBad, models_of, number_table, table_names, tables_of, naming_names, app_for, line_for, program_options, run_options, replay_options, first_bad_of_run, first_bad_of_replay};
+ghost use Rattle.vt_options.specs.Own.{AllHaveDefaults, GiveRun, GiveReplay, NamesBad, models_of, number_table, table_names, tables_of, naming_names, app_for, line_for, printing_options, program_options, run_options, replay_options, first_bad_of_run, first_bad_of_replay};
 ghost use Rattle.vt_options.specs.Requests.{IsRefusedByOf};
 ghost use Rattle.vt_options.specs.Asked.{IsAsked};
 
-use crate::line::{LineOption, ProgramTexts, matches_in};
+use crate::line::{LineOption, ProgramTexts, Uses, matches_in};
 use crate::models::{model_option, model_values};
 use crate::own::{Chosen, ModelOptions, ModelTable, OwnOption};
-use crate::programs::program_option;
-use crate::reading::{config_options, number_option, synch_option, text_option};
+use crate::programs::{lps_given, program_option};
+use crate::reading::{
+    config_options, finals_option, number_option, records_option, synch_option, text_option,
+};
 use crate::refusing::help_of;
 use crate::texts::{
-    DATA, END, FUEL, LPS, OptionText, PROGRAM, REPLAY_WORKERS, SEED, SERIAL, SET, SYNCH, TEXT,
-    TURNS, WORKERS,
+    DATA, END, FINALS, FUEL, LPS, OptionText, PROGRAM, RECORDS, REPLAY_WORKERS, SEED, SERIAL, SET,
+    SYNCH, TEXT, TURNS, WORKERS,
 };
 use crate::{MAX_TURNS, ReplaySettings, RunSettings, Task};
 use clap::{ArgMatches, Error};
@@ -32,13 +34,13 @@ pub enum Request<'a> {
     Help(String),
 }
 
-/// An option that a line gives once at most.
+/// An option that a line gives once at most, with a value.
 fn once(text: OptionText) -> LineOption
-    ensures { (result.text ≡ text) × (result.repeats ≡ false) }
+    ensures { (result.text ≡ text) × (result.uses ≡ Uses.Once) }
 {
     LineOption {
         text,
-        repeats: false,
+        uses: Uses::Once,
     }
 }
 
@@ -101,6 +103,18 @@ fn add_models(list: &mut Vec<LineOption>, models: &[ModelOptions<'_>]) -> Result
     Ok(())
 }
 
+/// Adds the options that say what a run prints beside the version of its text.
+fn add_printing(list: &mut Vec<LineOption>) -> Result<(), AllocError>
+    ensures { IfOk result (λ _. options_of list.new.items ≡ options_of list.old.items ++ printing_options) }
+{
+    list.push(LineOption {
+        text: FINALS,
+        uses: Uses::Flag,
+    })?;
+    list.push(once(RECORDS))?;
+    Ok(())
+}
+
 /// Adds the options of programs to a list, where the table lets them take a model's place.
 fn add_programs(list: &mut Vec<LineOption>, programs: bool) -> Result<(), AllocError>
     ensures { IfOk result (λ _. options_of list.new.items ≡ options_of list.old.items ++ program_options programs) }
@@ -109,7 +123,7 @@ fn add_programs(list: &mut Vec<LineOption>, programs: bool) -> Result<(), AllocE
         list.push(once(PROGRAM))?;
         list.push(LineOption {
             text: SET,
-            repeats: true,
+            uses: Uses::ManyTimes,
         })?;
         list.push(once(DATA))?;
         list.push(once(FUEL))?;
@@ -126,6 +140,7 @@ fn run_options(alloc: Global, table: &ModelTable<'_>) -> Result<Vec<LineOption>,
     add_all(&mut list, &[SYNCH, WORKERS, LPS, END, SEED])?;
     add_models(&mut list, table.models)?;
     add_all(&mut list, &[TURNS, TEXT])?;
+    add_printing(&mut list)?;
     add_programs(&mut list, table.programs)?;
     Ok(list)
 }
@@ -150,7 +165,7 @@ fn read_run<'a>(
     table: &ModelTable<'_>,
 ) -> Result<(RunSettings, Chosen<'a>), Fault>
     requires { AllHaveDefaults table.now.models.now }
-    ensures ok { IfOk result (λ r. GiveRun (models_of table.now) (first_value (found_of matches.now)) (texts_in matches.now (codes "set")) r.0 r.1.model r.1.values.items r.1.program) }
+    ensures ok { IfOk result (λ r. GiveRun (models_of table.now) (first_value (found_of matches.now)) (texts_in matches.now (codes "set")) r.0 r.1.model r.1.values.items r.1.lps r.1.program) }
     ensures err { IfErr result (NamesBad (first_bad_of_run (models_of table.now) (first_value (found_of matches.now)) (texts_in matches.now (codes "set")))) }
 {
     let model = model_option(matches, table)?;
@@ -159,16 +174,20 @@ fn read_run<'a>(
     let values = model_values(alloc, matches, table.models, model)?;
     let turns = number_option(matches, "turns", 1, MAX_TURNS, 10_000_000)?;
     let text = text_option(matches)?;
-    let program = program_option(alloc, matches, table, config.lps)?;
+    let finals = finals_option(matches, text)?;
+    let records = records_option(matches, text)?;
+    let program = program_option(alloc, matches, table)?;
     let settings = RunSettings {
         synch,
         config,
         turns,
-        text,
+        records,
+        finals,
     };
     let chosen = Chosen {
         model,
         values,
+        lps: lps_given(matches, config.lps),
         program,
     };
     Ok((settings, chosen))
@@ -181,7 +200,7 @@ fn read_replay<'a>(
     table: &ModelTable<'_>,
 ) -> Result<(ReplaySettings, Chosen<'a>), Fault>
     requires { AllHaveDefaults table.now.models.now }
-    ensures ok { IfOk result (λ r. GiveReplay (models_of table.now) (first_value (found_of matches.now)) (texts_in matches.now (codes "set")) r.0 r.1.model r.1.values.items r.1.program) }
+    ensures ok { IfOk result (λ r. GiveReplay (models_of table.now) (first_value (found_of matches.now)) (texts_in matches.now (codes "set")) r.0 r.1.model r.1.values.items r.1.lps r.1.program) }
     ensures err { IfErr result (NamesBad (first_bad_of_replay (models_of table.now) (first_value (found_of matches.now)) (texts_in matches.now (codes "set")))) }
 {
     let model = model_option(matches, table)?;
@@ -189,7 +208,7 @@ fn read_replay<'a>(
     let values = model_values(alloc, matches, table.models, model)?;
     let serial = number_option(matches, "serial", 0, MAX_COUNT, 0)?;
     let text = text_option(matches)?;
-    let program = program_option(alloc, matches, table, config.lps)?;
+    let program = program_option(alloc, matches, table)?;
     let settings = ReplaySettings {
         config,
         serial,
@@ -198,6 +217,7 @@ fn read_replay<'a>(
     let chosen = Chosen {
         model,
         values,
+        lps: lps_given(matches, config.lps),
         program,
     };
     Ok((settings, chosen))
@@ -249,9 +269,9 @@ fn request_of<'a>(
 /// range. The first word is the program's name.
 ///
 /// Options are tested in this order. Of `run`: the one that names the model, `synch`, `workers`, `lps`, `end`, `seed`, those of all
-/// models, `turns`, `text`. Of `replay`: the one that names the model, `workers`, `lps`, `end`, `seed`, those of all models, `serial`,
+/// models, `turns`, `text`, `finals`, `records`. Of `replay`: the one that names the model, `workers`, `lps`, `end`, `seed`, those of all models, `serial`,
 /// `text`. Then, where the table lets a program take a model's place: `program`, `set`, `fuel`. `program` is bad if a model is named
-/// too, and `set` if it isn't NAME=VALUE. The words say nothing of what the files have.
+/// too, `set` if it isn't NAME=VALUE, and `finals` with version 1 of the text, which has no final values. The words say nothing of what the files have.
 ///
 /// [`Fault::BadOption`] with an option's name: this is the first bad option in that order. Options of models that aren't
 /// chosen are tested too. [`Fault::BadOption`] with `command-line`: the words have no meaning. A word is unknown, an option has

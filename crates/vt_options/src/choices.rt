@@ -22,8 +22,10 @@ pub struct RunSettings {
     pub config: Config,
     /// The most turns of each worker, from 1 to 2^63. A sequential run doesn't use it.
     pub turns: u64,
-    /// The version of the text in which the records are printed.
-    pub text: Version,
+    /// The version of the text in which the records are printed. None: they aren't.
+    pub records: Option<Version>,
+    /// Whether the final value of each process is printed after them.
+    pub finals: bool,
 }
 
 /// How a replay of any model is made. Each value is in its range.
@@ -69,7 +71,8 @@ impl Task {
                 synch: settings.synch,
                 config,
                 turns: settings.turns,
-                text: settings.text,
+                records: settings.records,
+                finals: settings.finals,
             }),
             Task::Replay(settings) => Task::Replay(ReplaySettings {
                 config,

@@ -6,7 +6,7 @@ ghost use Rattle.clap.specs.Words.{Text, first_value, found_of};
 ghost use Rattle.vt_options.specs.Line.{texts_in};
 ghost use Rattle.vt_options.specs.Programs.{SetsNothing};
 ghost use Rattle.vt_options.specs.Own.{AllHaveDefaults, line_for, models_of};
-ghost use Rattle.vt_options.specs.Hints.{IsHintOn, TellsTurns, more_turns, no_command, option_takes, parser_says};
+ghost use Rattle.vt_options.specs.Hints.{IsHintOn, TellsTurns, finals_need, more_turns, no_command, option_takes, parser_says};
 ghost use Rattle.vt_options.specs.Shown.{IsShownSentence, IsShownWord};
 
 use crate::asking::{Request, read_request, table_matches};
@@ -52,6 +52,13 @@ fn hint_on_option(
 {
     let shown = shown_word(alloc, word)?;
     option_line(alloc, program, name, takes, shown.as_str())
+}
+
+/// A line on the flag for final values, which needs version 2 of the text. None: memory was refused.
+fn hint_on_finals(alloc: Global, program: &str) -> Option<String>
+    ensures { IfSome result (λ line. string_bytes line ≡ finals_need program.now) }
+{
+    format!(in alloc; "{program}: --finals needs --text 2").ok()
 }
 
 /// A line on words without a command. None: memory was refused.
@@ -145,6 +152,9 @@ pub fn hint<S: AsStr>(
     let Some((_, inner)) = matches.subcommand() else {
         return hint_on_missing(alloc, texts.name);
     };
+    if name == "finals" {
+        return hint_on_finals(alloc, texts.name);
+    }
     let word = refused_word(inner, table.programs, name)?;
     let takes = table_takes(alloc, table, name)?;
     hint_on_option(alloc, texts.name, name, takes.as_str(), word)

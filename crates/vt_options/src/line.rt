@@ -29,16 +29,27 @@ const RUN_ABOUT: &str =
 const REPLAY_ABOUT: &str =
     "Reads the steps of a Time Warp run, a line for each, and prints what they are answered";
 
+/// How a line may use an option.
+#[derive(Debug, Clone, Copy)]
+pub(crate) enum Uses {
+    /// Once, with a value.
+    Once,
+    /// Any number of times, each with a value.
+    ManyTimes,
+    /// Once, without a value.
+    Flag,
+}
+
 /// An option of a subcommand.
 #[derive(Debug, Clone, Copy)]
 pub(crate) struct LineOption {
     /// What help shows of it.
     pub(crate) text: OptionText,
-    /// Whether a line may give it more than once.
-    pub(crate) repeats: bool,
+    /// How a line may use it.
+    pub(crate) uses: Uses,
 }
 
-/// An option with a value.
+/// An option as the parser takes it.
 fn option<'a>(alloc: Global, option: &LineOption) -> Arg<'a>
     ensures rule { rule_of result ≡ option_rule (option_of option.now) }
     ensures local { result.global ≡ false }
@@ -46,13 +57,12 @@ fn option<'a>(alloc: Global, option: &LineOption) -> Arg<'a>
     let text = &option.text;
     let arg = Arg::new(alloc, text.name)
         .long(text.name)
-        .value_name(text.value)
         .help_heading(text.heading)
         .help(text.help);
-    if option.repeats {
-        arg.action(ArgAction::Append)
-    } else {
-        arg
+    match option.uses {
+        Uses::Once => arg.value_name(text.value),
+        Uses::ManyTimes => arg.value_name(text.value).action(ArgAction::Append),
+        Uses::Flag => arg.action(ArgAction::SetTrue),
     }
 }
 

@@ -57,6 +57,8 @@ pub struct Chosen<'a> {
     pub model: usize,
     /// The values of its options, in the order of its own table. Each is in its range.
     pub values: Vec<u32>,
+    /// The number of processes, if the words give one.
+    pub lps: Option<u32>,
     /// The program that takes the model's place, if the words give one.
     pub program: Option<ProgramChoice<'a>>,
 }

@@ -37,8 +37,6 @@ pub struct ProgramChoice<'a> {
     pub data_file: Option<&'a str>,
     /// The most instructions of a handler, from 1 to 2^32.
     pub fuel: u64,
-    /// The number of processes, if the words give one.
-    pub lps: Option<u32>,
 }
 
 /// The number that a text NAME=VALUE sets, with NAME before the first `=` and VALUE of 1 to 20 decimal digits below 2^64.
@@ -121,7 +119,7 @@ fn file_option<'a>(
 }
 
 /// The number of processes, where it is given.
-fn lps_given(matches: &ArgMatches, processes: u32) -> Option<u32>
+pub(crate) fn lps_given(matches: &ArgMatches, processes: u32) -> Option<u32>
     requires { value_in (first_value (found_of matches.now)) lps ≡ Some processes }
     ensures { value_given (first_value (found_of matches.now)) lps ≡ result }
 {
@@ -129,16 +127,14 @@ fn lps_given(matches: &ArgMatches, processes: u32) -> Option<u32>
     Some(processes)
 }
 
-/// The program that takes the place of a model, if the table lets it and the words give one. `processes` is the number of processes.
+/// The program that takes the place of a model, if the table lets it and the words give one.
 ///
 /// [`Fault::BadOption`] names the first bad option of programs. [`Fault::Memory`]: memory was refused.
 pub(crate) fn program_option<'a>(
     alloc: Global,
     matches: &ArgMatches<'a>,
     table: &ModelTable<'_>,
-    processes: u32,
 ) -> Result<Option<ProgramChoice<'a>>, Fault>
-    requires { value_in (first_value (found_of matches.now)) lps ≡ Some processes }
     ensures ok { IfOk result (λ program. GiveProgram (models_of table.now) (first_value (found_of matches.now)) (texts_in matches.now (codes "set")) program) }
     ensures good { IfOk result (λ _. first_bad_of_program (models_of table.now) (first_value (found_of matches.now)) (texts_in matches.now (codes "set")) ≡ None) }
     ensures err { IfErr result (NamesBad (first_bad_of_program (models_of table.now) (first_value (found_of matches.now)) (texts_in matches.now (codes "set")))) }
@@ -157,6 +153,5 @@ pub(crate) fn program_option<'a>(
         sets,
         data_file: matches.get_str("data"),
         fuel,
-        lps: lps_given(matches, processes),
     }))
 }

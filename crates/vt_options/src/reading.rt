@@ -4,7 +4,7 @@ ghost use Rattle.std.specs.Prelude.{◌≡◌, ◌≤◌, ◌<◌, ◌^◌, ℕ,
 ghost use Rattle.clap.specs.Words.{first_value, found_of};
 ghost use Rattle.vt_key.specs.Faults.{fault_number, option_named};
 ghost use Rattle.vt_model.specs.Settings.{is_between};
-ghost use Rattle.vt_options.specs.Table.{number_in, synch_in, version_in, bad, first_bad_of, config_table};
+ghost use Rattle.vt_options.specs.Table.{number_in, synch_in, version_in, finals_in, records_in, records_said, bad, first_bad_of, config_table};
 ghost use Rattle.vt_options.specs.Settings.{GiveConfig};
 
 use crate::Synch;
@@ -110,6 +110,52 @@ pub(crate) fn text_option(matches: &ArgMatches) -> Result<Version, Fault>
         Some(1) => Ok(Version::One),
         Some(2) => Ok(Version::Two),
         _ => Err(Fault::BadOption("text")),
+    }
+}
+
+/// The flag `finals`: whether final values are printed.
+///
+/// [`Fault::BadOption`]: it is given, and the version of the text is 1, which has no final values.
+pub(crate) fn finals_option(matches: &ArgMatches, version: Version) -> Result<bool, Fault>
+    requires { version_in (first_value (found_of matches.now) (codes "text")) ≡ Some version }
+    ensures ok { IfOk result (λ finals. finals_in (first_value (found_of matches.now)) ≡ Some finals) }
+    ensures err { IfErr result (λ fault. fault_number fault ≡ 7) }
+    ensures bad { IfErr result (λ fault. option_named fault ≡ bad (codes "finals") (finals_in (first_value (found_of matches.now)))) }
+{
+    let Some(text) = matches.get_str("finals") else {
+        return Ok(false);
+    };
+    if text != "true" {
+        return Ok(false);
+    }
+    match version {
+        Version::One => Err(Fault::BadOption("finals")),
+        Version::Two => Ok(true),
+    }
+}
+
+/// The option `records`: whether records are printed. Then it is in this version.
+///
+/// [`Fault::BadOption`]: it is neither `yes` nor `no`.
+pub(crate) fn records_option(
+    matches: &ArgMatches,
+    version: Version,
+) -> Result<Option<Version>, Fault>
+    requires { version_in (first_value (found_of matches.now) (codes "text")) ≡ Some version }
+    ensures ok { IfOk result (λ records. records_in (first_value (found_of matches.now)) ≡ Some records) }
+    ensures good { IfOk result (λ _. bad (codes "records") (records_said (first_value (found_of matches.now) (codes "records"))) ≡ None) }
+    ensures err { IfErr result (λ fault. fault_number fault ≡ 7) }
+    ensures bad { IfErr result (λ fault. option_named fault ≡ bad (codes "records") (records_said (first_value (found_of matches.now) (codes "records")))) }
+{
+    let Some(text) = matches.get_str("records") else {
+        return Ok(Some(version));
+    };
+    if text == "yes" {
+        Ok(Some(version))
+    } else if text == "no" {
+        Ok(None)
+    } else {
+        Err(Fault::BadOption("records"))
     }
 }
 

@@ -99,6 +99,24 @@ pub(crate) const TEXT: OptionText = OptionText {
     help: "Version of the text of records: 1 has no priorities, 2 has them [default: 2]",
 };
 
+/// Whether final values are printed.
+pub(crate) const FINALS: OptionText = OptionText {
+    name: "finals",
+    value: "",
+    heading: GENERAL,
+    takes: "no value",
+    help: "Prints the final value of each process last, in a line: final PROCESS VALUE",
+};
+
+/// Whether records are printed.
+pub(crate) const RECORDS: OptionText = OptionText {
+    name: "records",
+    value: "WORD",
+    heading: GENERAL,
+    takes: "yes or no",
+    help: "Prints records, yes or no; without them final values alone [default: yes]",
+};
+
 /// The heading of the options of programs.
 const PROGRAMS_HEADING: &str = "Options of a program, a RISC-V executable in the place of a model";
 
@@ -142,6 +160,6 @@ pub(crate) const FUEL: OptionText = OptionText {
 pub(crate) static OF_PROGRAMS: [OptionText; 4] = [PROGRAM, SET, DATA, FUEL];
 
 /// The options of every model, each once.
-pub(crate) static EVERY_MODEL: [OptionText; 8] = [
-    SYNCH, WORKERS, LPS, END, SEED, TURNS, SERIAL, TEXT,
+pub(crate) static EVERY_MODEL: [OptionText; 10] = [
+    SYNCH, WORKERS, LPS, END, SEED, TURNS, SERIAL, TEXT, FINALS, RECORDS,
 ];

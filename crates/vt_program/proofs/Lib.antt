@@ -1,4 +1,3 @@
 pub mod OutcomeLemmas
 pub mod ModelLemmas
-pub mod TaskLemmas
 pub mod ProgramLemmas

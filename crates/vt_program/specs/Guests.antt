@@ -1,12 +1,13 @@
 -- The models that programs make.
-use Rattle.std.specs.Prelude.{◌≡◌, ◌<◌, ◌≤◌, ℕ, length}
+use Rattle.std.specs.Prelude.{◌≡◌, ◌<◌, ◌≤◌, ℕ, length, Option}
 use Rattle.vt_model.specs.declared.settings.Config.{Config}
 use Rattle.vt_guest.specs.declared.guest.Program.{Program}
 use Rattle.vt_guest.specs.declared.loading.Loaded.{Loaded}
 use Rattle.vt_options.specs.declared.programs.ProgramChoice.{ProgramChoice}
+use Rattle.vt_options.specs.Processes.{Settles}
 use Rattle.vt_program.specs.declared.models.TwarpModel.{TwarpModel}
 use Rattle.vt_program.specs.declared.models.TwarpModel.TheVariants.{Hop, Phold, Stations, Guest64, Guest256, Guest1024, Guest4096}
-use Rattle.vt_program.specs.Programs.{Told, Loads, Settles}
+use Rattle.vt_program.specs.Programs.{Told, Loads}
 
 -- the model has the handlers of the program, and the least size of states that holds its first state
 abbrev pub IsGuestOf : Program → TwarpModel → Type 0
@@ -18,9 +19,9 @@ IsGuestOf program (Guest256 g) = (g.program ≡ program) × (64 < length program
 IsGuestOf program (Guest1024 g) = (g.program ≡ program) × (256 < length program.first.items) × (length program.first.items ≤ 1024)
 IsGuestOf program (Guest4096 g) = (g.program ≡ program) × (1024 < length program.first.items)
 
--- the program that is chosen makes this model, which is run with this config
-pub record RunsProgram (told : Told) (p : ProgramChoice) (config : Config) (m : TwarpModel) (settled : Config) : Type 0 where
+-- the program that is chosen makes this model, which is run with this config. `lps` is the number of processes that the words give
+pub record RunsProgram (told : Told) (p : ProgramChoice) (lps : Option ℕ) (config : Config) (m : TwarpModel) (settled : Config) : Type 0 where
   pub loaded : Loaded
   pub loads : Loads told p loaded
   pub model_is : IsGuestOf loaded.program m
-  pub settles : Settles loaded.processes p.lps config settled
+  pub settles : Settles loaded.processes lps config settled

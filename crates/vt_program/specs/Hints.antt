@@ -21,6 +21,6 @@ pub record TellsProgram (told : Told) (words : List Text) (line : Text) : Type 0
   pub program : ProgramChoice
   pub is_chosen : chosen.program ≡ Some program
   pub bad : Text
-  pub refused : Refuses told program bad
+  pub refused : Refuses told program chosen.lps bad
   pub said : Text
   pub line_is : line ≡ program_line bad said

@@ -64,20 +64,20 @@ MakesModel chosen config (Ok made) = IsMadeOf chosen made.0 × (made.1 ≡ confi
 MakesModel chosen config (Err bad) = ⊥
 
 -- the words choose no model for this reason, so this option is bad
-pub record Refuses (told : Told) (p : ProgramChoice) (bad : Text) : Type 0 where
+pub record Refuses (told : Told) (p : ProgramChoice) (lps : Option ℕ) (bad : Text) : Type 0 where
   pub refusal : ProgramRefusal
-  pub why : RefusesProgram told p refusal
+  pub why : RefusesProgram told p lps refusal
   pub named : option_of refusal ≡ Some bad
 
 -- a program that is chosen makes a model, or none
-abbrev pub MakesProgram : Told → ProgramChoice → Config → Making TwarpModel → Type 0
-MakesProgram told p config (Ok made) = RunsProgram told p config made.0 made.1
-MakesProgram told p config (Err bad) = Refuses told p bad
+abbrev pub MakesProgram : Told → ProgramChoice → Option ℕ → Config → Making TwarpModel → Type 0
+MakesProgram told p lps config (Ok made) = RunsProgram told p lps config made.0 made.1
+MakesProgram told p lps config (Err bad) = Refuses told p lps bad
 
 -- the model of the table, or the program in its place
 abbrev pub MakesBy : Told → Chosen → Option ProgramChoice → Config → Making TwarpModel → Type 0
 MakesBy told chosen None config made = MakesModel chosen config made
-MakesBy told chosen (Some p) config made = MakesProgram told p config made
+MakesBy told chosen (Some p) config made = MakesProgram told p chosen.lps config made
 
 -- what is made of a choice, by what is known of files
 abbrev pub Makes : Told → Chosen → Config → Making TwarpModel → Type 0

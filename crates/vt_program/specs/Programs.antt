@@ -1,10 +1,10 @@
 -- Programs in the place of a model: what is made of files and of what the words give.
-use Rattle.std.specs.Prelude.{◌≡◌, ◌⊎◌, ◌<◌, ◌≤◌, ◌==◌, ℕ, Bool, true, false, ⊤, List, [], length, map, Option, Some, None, IfSome, option_map, string_bytes, codes}
+use Rattle.std.specs.Prelude.{◌≡◌, ◌⊎◌, ◌<◌, ◌≤◌, ℕ, ⊤, List, [], length, map, Option, Some, None, IfSome, option_map, string_bytes, codes}
 use Rattle.clap.specs.Words.{Text}
-use Rattle.vt_key.specs.declared.limits.TheConstants.{MAX_PROCESSES}
-use Rattle.vt_model.specs.declared.settings.Config.{Config}
-use Rattle.vt_model.specs.Settings.{is_between}
 use Rattle.vt_options.specs.declared.programs.ProgramChoice.{ProgramChoice}
+use Rattle.vt_options.specs.declared.processes.Unsettled.{Unsettled}
+use Rattle.vt_options.specs.declared.processes.Unsettled.TheVariants as reason
+use Rattle.vt_options.specs.Processes.{IsUnsettled}
 use Rattle.vt_options.specs.Programs.{pair_of}
 use Rattle.vt_guest.specs.declared.loading.Loaded.{Loaded}
 use Rattle.vt_guest.specs.declared.loading.Refusal.{Refusal}
@@ -68,51 +68,28 @@ pub record LoadFails (told : Told) (p : ProgramChoice) (why : Refusal) : Type 0 
   pub given : MayGive told p bytes sets input
   pub is_refused : IsRefused bytes sets input why
 
--- ---- the number of processes that a program fixes
-
--- a number may be one of processes
-abbrev pub is_count : ℕ → Bool
-is_count n = is_between 1 MAX_PROCESSES n
-
--- the number that is fixed is that which the words give, if they give one
-abbrev pub agrees : ℕ → Option ℕ → Bool
-agrees n None = true
-agrees n (Some given) = given == n
-
--- the config but for its number of processes
-pub record HasProcesses (n : ℕ) (config settled : Config) : Type 0 where
-  pub lps : settled.lps ≡ n
-  pub workers : settled.workers ≡ config.workers
-  pub end : settled.end ≡ config.end
-  pub seed : settled.seed ≡ config.seed
-
--- the config with which a program is run that fixes this number, or none
-abbrev pub Settles : Option ℕ → Option ℕ → Config → Config → Type 0
-Settles None given config settled = settled ≡ config
-Settles (Some n) given config settled = (is_count n ≡ true) × (agrees n given ≡ true) × HasProcesses n config settled
-
--- why there is none: the number can't be one of processes, or the words give another one
-abbrev pub IsUnsettled : Option ℕ → Option ℕ → ProgramRefusal → Type 0
-IsUnsettled (Some n) given refusal.Processes = is_count n ≡ false
-IsUnsettled (Some n) given (refusal.Lps fixed) = (fixed ≡ n) × (is_count n ≡ true) × (agrees n given ≡ false)
-IsUnsettled _ given _ = ⊥
-
--- the program is loaded, and there is none for this reason
-pub record LoadsUnsettled (told : Told) (p : ProgramChoice) (why : ProgramRefusal) : Type 0 where
+-- the program is loaded, and there is no config with which it is run, for this reason. `lps` is the number of processes that the
+-- words give
+pub record LoadsUnsettled (told : Told) (p : ProgramChoice) (lps : Option ℕ) (why : Unsettled) : Type 0 where
   pub loaded : Loaded
   pub loads : Loads told p loaded
-  pub unsettled : IsUnsettled loaded.processes p.lps why
+  pub unsettled : IsUnsettled loaded.processes lps why
+
+-- what a program is refused by for such a reason
+abbrev pub unsettled_refusal : Unsettled → ProgramRefusal
+unsettled_refusal reason.Count = refusal.Processes
+unsettled_refusal (reason.Lps fixed) = refusal.Lps fixed
 
 -- ---- refusals
 
 -- why words that choose a program make no model
-abbrev pub RefusesProgram : Told → ProgramChoice → ProgramRefusal → Type 0
-RefusesProgram told p refusal.Memory = ⊤
-RefusesProgram told p (refusal.File fault) = MayFail told p.file.now MAX_PROGRAM_FILE
-RefusesProgram told p (refusal.Data fault) = DataMayFail told (data_name p)
-RefusesProgram told p (refusal.Load why) = LoadFails told p why
-RefusesProgram told p refusal.Processes = LoadsUnsettled told p refusal.Processes
-RefusesProgram told p (refusal.Lps fixed) = LoadsUnsettled told p (refusal.Lps fixed)
+abbrev pub RefusesProgram : Told → ProgramChoice → Option ℕ → ProgramRefusal → Type 0
+RefusesProgram told p lps refusal.Memory = ⊤
+RefusesProgram told p lps (refusal.File fault) = MayFail told p.file.now MAX_PROGRAM_FILE
+RefusesProgram told p lps (refusal.Data fault) = DataMayFail told (data_name p)
+RefusesProgram told p lps (refusal.Load why) = LoadFails told p why
+RefusesProgram told p lps refusal.Processes = LoadsUnsettled told p lps reason.Count
+RefusesProgram told p lps (refusal.Lps fixed) = LoadsUnsettled told p lps (reason.Lps fixed)
 
 -- the option that is bad: `set` where it is what the words set, `data` where it is too long, and `program` where it is the file
 abbrev pub option_of_load : Refusal → Text

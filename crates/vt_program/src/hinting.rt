@@ -51,11 +51,12 @@ fn hint_on_choice<D: Files>(
     alloc: Global,
     files: &D,
     program: &ProgramChoice<'_>,
+    lps: Option<u32>,
     config: Config,
 ) -> Option<String>
-    ensures { IfSome result (λ line. (bad : Text) × Refuses (D.told files.now) program.now bad × ((said : Text) × (string_bytes line ≡ program_line bad said))) }
+    ensures { IfSome result (λ line. (bad : Text) × Refuses (D.told files.now) program.now lps bad × ((said : Text) × (string_bytes line ≡ program_line bad said))) }
 {
-    match program_model(alloc, files, program, config) {
+    match program_model(alloc, files, program, lps, config) {
         Ok(_) => None,
         Err(refusal) => line_of(alloc, refusal),
     }
@@ -75,5 +76,5 @@ pub fn hint<S: AsStr, D: Files>(alloc: Global, words: &[S], files: &D) -> Option
     let Some(program) = &chosen.program else {
         return None;
     };
-    hint_on_choice(alloc, files, program, task.config())
+    hint_on_choice(alloc, files, program, chosen.lps, task.config())
 }

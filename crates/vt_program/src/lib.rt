@@ -44,13 +44,14 @@ pub use vt_watch::{Progress, Unwatched, Watch};
 /// The whole program: does what the words ask for, and returns the exit status. The first word is the program's name.
 ///
 /// Status 0: `out` got all that the words ask for, and nothing else. This is the help, or the records of a run, in the
-/// version of their text that `--text` names. For a replay of the step text from `reader`, it is a line for each step's
+/// version of their text that `--text` names, unless `--records` is `no`, and then with `--finals` a line `final LP VALUE` for each process
+/// in rising order. For a replay of the step text from `reader`, it is a line for each step's
 /// answer, and then what the world shows, with its records in that version.
 ///
 /// Any other status comes with one line `twarp: refused N TEXT` on `err`, or a beginning of it if `err` fails. The
 /// status depends on N alone: 2 for 7, 3 for 8, and 1 for the others. The committed records of a run in threads are
 /// those below some time. They are written in the version that `--text` names: in version 2 the first line is written
-/// even if there are none.
+/// even if there are none. With `--records no` neither is.
 ///
 /// - N = 1: memory was refused. Nothing was written to `out`; or of a replay, the lines of all answers; or of a sequential
 ///   run, a beginning of the text; or of a run in threads, the committed records. If memory is refused to a step of a

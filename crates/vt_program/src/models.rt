@@ -105,7 +105,7 @@ pub(crate) fn model_of<D: Files>(
     ensures err { IfErr result (λ refusal. (refusal ≡ ProgramRefusal.Memory) ⊎ ((bad : Text) × Makes (D.told files.now) chosen.now config (Err bad) × (option_of refusal ≡ Some bad))) }
 {
     match &chosen.program {
-        Some(program) => program_model(alloc, files, program, config),
+        Some(program) => program_model(alloc, files, program, chosen.lps, config),
         None => Ok((own_model(chosen), config)),
     }
 }

@@ -1,9 +1,11 @@
 //! Programs in the place of a model: how one is made of files and of what the words give it.
 
-ghost use Rattle.std.specs.Prelude.{◌≡◌, ◌⊎◌, IfOk, IfErr, map};
+ghost use Rattle.std.specs.Prelude.{◌≡◌, ◌⊎◌, ℕ, Option, IfOk, IfErr, map};
 ghost use Rattle.vt_key.specs.Faults.{option_named};
+ghost use Rattle.vt_options.specs.declared.processes.Unsettled.{Unsettled};
+ghost use Rattle.vt_options.specs.Processes.{IsUnsettled, Settles};
 ghost use Rattle.vt_options.specs.Programs.{pair_of};
-ghost use Rattle.vt_program.specs.Programs.{IsUnsettled, Loads, MayFail, MayHave, MayHaveData, RefusesProgram, Settles, data_name, option_of, set_pair};
+ghost use Rattle.vt_program.specs.Programs.{Loads, MayFail, MayHave, MayHaveData, RefusesProgram, data_name, option_of, set_pair, unsettled_refusal};
 ghost use Rattle.vt_program.specs.Guests.{IsGuestOf, RunsProgram};
 
 use crate::files::{Files, ReadFault};
@@ -11,9 +13,9 @@ use crate::models::TwarpModel;
 use std::alloc::{AllocError, Global};
 use thiserror::Error;
 use vt_guest::{Guest, Loaded, MAX_DATA, Program, Refusal, Set, load};
-use vt_key::{Fault, MAX_PROCESSES};
+use vt_key::Fault;
 use vt_model::Config;
-use vt_options::{Assignment, ProgramChoice};
+use vt_options::{Assignment, ProgramChoice, Unsettled, settled};
 
 /// The most bytes of a program's file: 17 MiB.
 pub const MAX_PROGRAM_FILE: usize = 17 * 1_048_576;
@@ -77,7 +79,7 @@ fn program_bytes<D: Files>(
     program: &ProgramChoice<'_>,
 ) -> Result<Vec<u8>, ProgramRefusal>
     ensures ok { IfOk result (λ bytes. MayHave (D.told files.now) program.now.file.now MAX_PROGRAM_FILE bytes.items) }
-    ensures err { IfErr result (RefusesProgram (D.told files.now) program.now) }
+    ensures err { (lps : Option ℕ) → IfErr result (RefusesProgram (D.told files.now) program.now lps) }
 {
     match bytes_of(alloc, files, program.file, MAX_PROGRAM_FILE) {
         Ok(bytes) => Ok(bytes),
@@ -93,7 +95,7 @@ fn data_bytes<D: Files>(
     program: &ProgramChoice<'_>,
 ) -> Result<Vec<u8>, ProgramRefusal>
     ensures ok { IfOk result (λ bytes. MayHaveData (D.told files.now) (data_name program.now) bytes.items) }
-    ensures err { IfErr result (RefusesProgram (D.told files.now) program.now) }
+    ensures err { (lps : Option ℕ) → IfErr result (RefusesProgram (D.told files.now) program.now lps) }
 {
     let Some(name) = program.data_file else {
         return Ok(Vec::new(alloc));
@@ -126,7 +128,7 @@ fn loaded_program<D: Files>(
     program: &ProgramChoice<'_>,
 ) -> Result<Loaded, ProgramRefusal>
     ensures ok { IfOk result (λ loaded. Loads (D.told files.now) program.now loaded) }
-    ensures err { IfErr result (RefusesProgram (D.told files.now) program.now) }
+    ensures err { (lps : Option ℕ) → IfErr result (RefusesProgram (D.told files.now) program.now lps) }
 {
     let bytes = program_bytes(alloc, files, program)?;
     let data = data_bytes(alloc, files, program)?;
@@ -141,26 +143,19 @@ fn loaded_program<D: Files>(
 }
 
 /// The config with which a program is run that fixes this number of processes, or none. `given` is the number that the words give.
-fn settled(fixed: Option<u64>, given: Option<u32>, config: Config) -> Result<Config, ProgramRefusal>
+fn settled_config(
+    fixed: Option<u64>,
+    given: Option<u32>,
+    config: Config,
+) -> Result<Config, ProgramRefusal>
     ensures ok { IfOk result (λ settled. Settles fixed given config settled) }
-    ensures err { IfErr result (IsUnsettled fixed given) }
+    ensures err { IfErr result (λ refusal. (why : Unsettled) × (refusal ≡ unsettled_refusal why) × IsUnsettled fixed given why) }
 {
-    let Some(count) = fixed else {
-        return Ok(config);
-    };
-    if count < 1 || count > u64::from(MAX_PROCESSES) {
-        return Err(ProgramRefusal::Processes);
+    match settled(fixed, given, config) {
+        Ok(config) => Ok(config),
+        Err(Unsettled::Count) => Err(ProgramRefusal::Processes),
+        Err(Unsettled::Lps(lps)) => Err(ProgramRefusal::Lps(lps)),
     }
-    let lps = count as u32;
-    if let Some(given) = given {
-        if given != lps {
-            return Err(ProgramRefusal::Lps(lps));
-        }
-    }
-    let Ok(config) = Config::new(lps, config.workers, config.end, config.seed) else {
-        unreachable!();
-    };
-    Ok(config)
 }
 
 /// The model whose handlers are a program's, with the least size of states that holds its first state.
@@ -179,17 +174,18 @@ fn guest_of(program: Program) -> TwarpModel
     }
 }
 
-/// The model that a program makes, and the config with which it is run.
+/// The model that a program makes, and the config with which it is run. `lps` is the number of processes that the words give.
 pub(crate) fn program_model<D: Files>(
     alloc: Global,
     files: &D,
     program: &ProgramChoice<'_>,
+    lps: Option<u32>,
     config: Config,
 ) -> Result<(TwarpModel, Config), ProgramRefusal>
-    ensures ok { IfOk result (λ made. RunsProgram (D.told files.now) program.now config made.0 made.1) }
-    ensures err { IfErr result (RefusesProgram (D.told files.now) program.now) }
+    ensures ok { IfOk result (λ made. RunsProgram (D.told files.now) program.now lps config made.0 made.1) }
+    ensures err { IfErr result (RefusesProgram (D.told files.now) program.now lps) }
 {
     let loaded = loaded_program(alloc, files, program)?;
-    let config = settled(loaded.processes, program.lps, config)?;
+    let config = settled_config(loaded.processes, lps, config)?;
     Ok((guest_of(loaded.program), config))
 }

@@ -1,5 +1,6 @@
 -- How many workers a run has makes no difference to its text.
-use Rattle.std.proofs.Common.{◌≡◌, ◌∙◌, ◌++◌, ◌≤◌, ℕ, zero, suc, List, [], ◌∷◌, Option, refl, ap, subst, arith}
+use Rattle.std.proofs.Common.{◌≡◌, ◌∙◌, ◌++◌, ◌≤◌, ℕ, zero, suc, Bool, List, [], ◌∷◌, Option, refl, ap, ap₂, map, subst, arith, if◌then◌else◌}
+use Rattle.std.specs.List.{range_with_len}
 use Rattle.vt_key.specs.Times.{Time, at}
 use Rattle.vt_key.specs.declared.fault.Fault.{Fault}
 use Rattle.vt_key.specs.declared.fault.Fault.TheVariants.{Memory, NotLawful, Busy, Closed, Exhausted, TurnsSpent, BadOption, BadStep, Output}
@@ -7,10 +8,10 @@ use Rattle.vt_model.specs.declared.rows.Row.{Row}
 use Rattle.vt_model.specs.declared.sending.Sent.{Sent}
 use Rattle.vt_model.specs.declared.settings.Config.{Config}
 use Rattle.vt_model.specs.Handler.{Handlers}
-use Rattle.vt_model.specs.Simulation.{Simulation, simulation_of, start_of, fire_of, words_at}
-use Rattle.vt_model.specs.Sequential.{RunState, fired_after, opening, step, after_steps, weight, whole_run, rows_after, rows_before, records_of, seq_records}
+use Rattle.vt_model.specs.Simulation.{Simulation, simulation_of, start_of, fire_of, words_at, after}
+use Rattle.vt_model.specs.Sequential.{RunState, fired_after, opening, step, after_steps, weight, whole_run, events_of, rows_after, rows_before, records_of, seq_records, seq_finals}
 use Rattle.vt_text.specs.declared.version.Version.{Version}
-use Rattle.vt_text.specs.Records.{records_text}
+use Rattle.vt_tasks.specs.Printed.{final_lines, finals_text, printed_text}
 use Rattle.vt_tasks.specs.Runs.{text_below, run_text, StopsWork}
 
 module _ {S P : Type 0} (sim : Simulation S P) (w : ℕ) where
@@ -37,7 +38,10 @@ module _ {S P : Type 0} (sim : Simulation S P) (w : ℕ) where
   records-same : (t : Time) → seq_records other t ≡ seq_records sim t
   records-same t = ap (λ (rows : List Row). records_of (rows_before t rows)) (rows-same [] (whole_run other) ∙ ap (rows_after sim []) whole-same)
 
-module _ (version : Version) {S P K : Type 0} (handlers : Handlers S P K) (c d : Config) (lps : d.lps ≡ c.lps) (end : d.end ≡ c.end) (seed : d.seed ≡ c.seed) where
+  finals-same : seq_finals other ≡ seq_finals sim
+  finals-same = ap (λ (es : List (Sent P)). map (λ p. sim.finish p (after sim p (events_of p es)).state) (range_with_len 0 sim.lps)) whole-same
+
+module _ (shown : Option Version) (finals : Bool) {S P K : Type 0} (handlers : Handlers S P K) (c d : Config) (lps : d.lps ≡ c.lps) (end : d.end ≡ c.end) (seed : d.seed ≡ c.seed) where
   but-workers : simulation_of handlers d ≡ record (simulation_of handlers c) { workers = d.workers }
   but-workers = λ i. record {
     lps = lps i;
@@ -48,11 +52,16 @@ module _ (version : Version) {S P K : Type 0} (handlers : Handlers S P K) (c d :
     finish = handlers.finish;
   }
 
-  below-same : (t : Time) → text_below version handlers d t ≡ text_below version handlers c t
-  below-same t = ap (λ (s : Simulation S P). records_text version (seq_records s t)) but-workers ∙ ap (records_text version) (records-same (simulation_of handlers c) d.workers t)
+  below-same : (t : Time) → text_below shown handlers d t ≡ text_below shown handlers c t
+  below-same t = ap (λ (s : Simulation S P). printed_text shown (seq_records s t)) but-workers ∙ ap (printed_text shown) (records-same (simulation_of handlers c) d.workers t)
 
-  pub text-same : run_text version handlers d ≡ run_text version handlers c
-  text-same = ap (λ n. text_below version handlers d (at n 0)) end ∙ below-same (at c.end 0)
+  last-same : finals_text finals (simulation_of handlers d) ≡ finals_text finals (simulation_of handlers c)
+  last-same =
+      ap (λ (s : Simulation S P). finals_text finals s) but-workers
+      ∙ ap (λ (values : List ℕ). if finals then final_lines 0 values else []) (finals-same (simulation_of handlers c) d.workers)
+
+  pub text-same : run_text shown finals handlers d ≡ run_text shown finals handlers c
+  text-same = ap₂ (λ (a b : List ℕ). a ++ b) (ap (λ n. text_below shown handlers d (at n 0)) end ∙ below-same (at c.end 0)) last-same
 
   fewer-stop : (below : Time → List ℕ) (whole : List ℕ) (old new : Option (List ℕ)) → d.workers ≤ c.workers → (fault : Fault) → StopsWork d.workers below whole old new fault → StopsWork c.workers below whole old new fault
   fewer-stop below whole old new fewer Memory h = h
@@ -66,7 +75,7 @@ module _ (version : Version) {S P K : Type 0} (handlers : Handlers S P K) (c d :
   fewer-stop below whole old new fewer Output h = h
 
   -- and so with fewer workers it stops as with more
-  pub stops-same : (old new : Option (List ℕ)) → d.workers ≤ c.workers → (fault : Fault) → StopsWork d.workers (text_below version handlers d) (run_text version handlers d) old new fault
-      → StopsWork c.workers (text_below version handlers c) (run_text version handlers c) old new fault
+  pub stops-same : (old new : Option (List ℕ)) → d.workers ≤ c.workers → (fault : Fault) → StopsWork d.workers (text_below shown handlers d) (run_text shown finals handlers d) old new fault
+      → StopsWork c.workers (text_below shown handlers c) (run_text shown finals handlers c) old new fault
   stops-same old new fewer fault h =
-      subst (λ (texts : (Time → List ℕ) × List ℕ). StopsWork c.workers texts.0 texts.1 old new fault) (λ i. ((λ t. below-same t i), text-same i)) (fewer-stop (text_below version handlers d) (run_text version handlers d) old new fewer fault h)
+      subst (λ (texts : (Time → List ℕ) × List ℕ). StopsWork c.workers texts.0 texts.1 old new fault) (λ i. ((λ t. below-same t i), text-same i)) (fewer-stop (text_below shown handlers d) (run_text shown finals handlers d) old new fewer fault h)

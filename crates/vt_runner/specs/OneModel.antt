@@ -10,16 +10,41 @@ use Rattle.vt_model.specs.Handler.{Handlers}
 use Rattle.vt_options.specs.declared.own.Chosen.{Chosen}
 use Rattle.vt_options.specs.declared.own.OwnOption.{OwnOption}
 use Rattle.vt_options.specs.Own.{only}
+use Rattle.vt_options.specs.declared.processes.Unsettled.{Unsettled}
+use Rattle.vt_options.specs.declared.processes.Unsettled.TheVariants.{Count, Lps}
+use Rattle.vt_options.specs.Processes.{IsUnsettled, Settles}
 use Rattle.vt_options.specs.Taken.{own_names, taken_in}
+use Rattle.vt_runner.specs.declared.one_model.Made.{Made}
 use Rattle.vt_tasks.specs.Models.{AnyHandlers, any_handlers, Making, IsDoneFor, EndsFor, IsReadFor, AskBadLineFor}
 
--- the values that were chosen may make a model, which is run with the config that is asked for; or none, which the option `values` says
-abbrev pub MakesBy : {M : Type 0} → (List ℕ → Option M → Type 0) → Chosen → Config → Making M → Type 0
-MakesBy Makes chosen config (Ok made) = Makes chosen.values.items (Some made.0) × (made.1 ≡ config)
-MakesBy Makes chosen config (Err bad) = Makes chosen.values.items None × (bad ≡ codes "values")
+-- which option is bad where a model fixes a number of processes with which it isn't run
+abbrev pub option_unsettled : Unsettled → Text
+option_unsettled Count = codes "values"
+option_unsettled (Lps fixed) = codes "lps"
+
+module _ {M : Type 0} (Makes : List ℕ → Option (Made M) → Type 0) (chosen : Chosen) where
+  -- the values that were chosen may make this model, which is run with this config
+  pub record MakesSettled (config : Config) (model : M) (settled : Config) : Type 0 where
+    pub processes : Option ℕ
+    pub made : Makes chosen.values.items (Some (record { model = model; processes = processes }))
+    pub settles : Settles processes chosen.lps config settled
+
+  -- or one with which nothing is run, since it fixes another number of processes
+  pub record MakesUnsettled (bad : Text) : Type 0 where
+    pub model : M
+    pub processes : Option ℕ
+    pub made : Makes chosen.values.items (Some (record { model = model; processes = processes }))
+    pub why : Unsettled
+    pub unsettled : IsUnsettled processes chosen.lps why
+    pub named : bad ≡ option_unsettled why
+
+  -- the values that were chosen may make a model, and its config; or none, which the option `values` says, or `lps`
+  abbrev pub MakesBy : Config → Making M → Type 0
+  MakesBy config (Ok made) = MakesSettled config made.0 made.1
+  MakesBy config (Err bad) = (Makes chosen.values.items None × (bad ≡ codes "values")) ⊎ MakesUnsettled bad
 
 -- a model with these handlers, which values of its options may make, or nothing, under a name and with a table of options
-module _ {M S P K : Type 0} (handlers : M → Handlers S P K) (Makes : List ℕ → Option M → Type 0) (name : Text) (own : List OwnOption) where
+module _ {M S P K : Type 0} (handlers : M → Handlers S P K) (Makes : List ℕ → Option (Made M) → Type 0) (name : Text) (own : List OwnOption) where
   -- the handlers, with their types
   abbrev pub meaning_of : M → AnyHandlers
   meaning_of model = any_handlers (handlers model)

@@ -11,7 +11,7 @@ mod simulation;
 mod starting;
 mod task;
 
-pub use one_model::{Streams, model_program};
+pub use one_model::{Made, Streams, model_program};
 pub use process::{hint_of_process, run_program, turns_hint_of_process, words_of};
 pub use simulation::simulate;
 pub use task::carry_out;

@@ -1,16 +1,17 @@
 //! A whole program of one model, as a function of its words, a reader and two writers.
 
-ghost use Rattle.std.specs.Prelude.{◌≡◌, ◌≢◌, length, map};
+ghost use Rattle.std.specs.Prelude.{◌≡◌, ◌≢◌, None, Some, length, map};
 ghost use Rattle.std.specs.Fn.{FnReturnsAt};
 ghost use Rattle.std.specs.Io.KnownBytes.{Keeps};
 ghost use Rattle.clap.specs.Words.{Text};
+ghost use Rattle.vt_key.specs.Faults.{option_named};
 ghost use Rattle.vt_key.specs.declared.fault.Fault.{Fault};
 ghost use Rattle.vt_options.specs.Own.{HaveDefaults, AreWithin, own_app, own_line};
 ghost use Rattle.vt_options.specs.Requests.{AskHelpOf, IsRefusedAsOf};
 ghost use Rattle.vt_tasks.specs.Refusals.{TellsRefusalOf, status_of};
 ghost use Rattle.vt_tasks.specs.Tasks.{BeginsWithinLimit};
 ghost use Rattle.vt_tasks.specs.Models.{any_handlers, CarriesOut};
-ghost use Rattle.vt_runner.specs.OneModel.{MakesBy, IsDoneOf, EndsOf, IsReadOf, AskBadLineOf};
+ghost use Rattle.vt_runner.specs.OneModel.{MakesBy, option_unsettled, IsDoneOf, EndsOf, IsReadOf, AskBadLineOf};
 
 use crate::carry_out;
 use std::alloc::Global;
@@ -20,7 +21,9 @@ use std::sync::Wait;
 use std::thread::Threads;
 use vt_key::Fault;
 use vt_model::Model as EventModel;
-use vt_options::{Chosen, ModelOptions, ModelTable, OwnOption, ProgramTexts, Task};
+use vt_options::{
+    Chosen, ModelOptions, ModelTable, OwnOption, ProgramTexts, Task, Unsettled, settled,
+};
 use vt_tasks::models_program;
 use vt_watch::Watch;
 
@@ -38,18 +41,69 @@ pub struct Streams<R, O, E> {
     pub errors: E,
 }
 
+/// A model that was made of the values of its options.
+#[derive(Drop)]
+pub struct Made<M> {
+    /// The model.
+    pub model: M,
+    /// The number of processes that it fixes, if it fixes one. Then this is what `--lps` is by default, and another value is refused.
+    pub processes: Option<u32>,
+}
+
+impl<M> Made<M> {
+    /// A model that runs with any number of processes.
+    pub fn any(model: M) -> Made<M>
+        ensures { result ≡ record { model = model; processes = None } }
+    {
+        Made {
+            model,
+            processes: None,
+        }
+    }
+
+    /// A model that runs with this number of processes alone.
+    pub fn fixed(model: M, processes: u32) -> Made<M>
+        ensures { result ≡ record { model = model; processes = Some processes } }
+    {
+        Made {
+            model,
+            processes: Some(processes),
+        }
+    }
+}
+
+/// The number of processes that a model fixes.
+fn fixed_by<M>(made: &Made<M>) -> Option<u64>
+    ensures { result ≡ made.now.processes }
+{
+    match made.processes {
+        Some(processes) => Some(u64::from(processes)),
+        None => None,
+    }
+}
+
+/// The fault of a model with which nothing is run, since it fixes another number of processes.
+fn fault_of(unsettled: Unsettled) -> Fault
+    ensures { option_named result ≡ Some (option_unsettled unsettled) }
+{
+    match unsettled {
+        Unsettled::Count => Fault::BadOption("values"),
+        Unsettled::Lps(_) => Fault::BadOption("lps"),
+    }
+}
+
 /// A whole program of one model: does what the words ask for, and returns the exit status. The first word is the program's
 /// name, `own` are the model's options, each with a default in its range, and `make` makes the model of their values. It has to work
 /// for all values in their ranges, as many as `own` has rows.
 ///
 /// The words are those of `./twarp`, with the model's options in the place of its models': `run`, `replay` or help, with
-/// `--workers`, `--lps`, `--end`, `--seed`, `--text` and the model's options, `--synch` and `--turns` for `run` alone, and
-/// `--serial` for `replay` alone.
+/// `--workers`, `--lps`, `--end`, `--seed`, `--text` and the model's options, `--synch`, `--turns`, `--finals` and `--records` for `run`
+/// alone, and `--serial` for `replay` alone.
 ///
 /// Status 0: the output got all that the words ask for, and nothing else. This is the help, or the records of the model's
-/// sequential run, or for a replay of the step text from the input a line for each step's answer, and then what the world
+/// sequential run and its final values, as far as the words ask for them, or for a replay of the step text from the input a line for each step's answer, and then what the world
 /// shows. The model is one that `make` gives for the values that the words give; an option that they don't give has its
-/// default.
+/// default. So has `--lps` the number of processes that the model fixes, if it fixes one.
 ///
 /// Any other status comes with one line `NAME: refused N TEXT` on `errors`, or a beginning of it if `errors` fails. The
 /// status depends on N alone: 2 for 7, 3 for 8, and 1 for the others. The committed records of a run in threads are those
@@ -64,7 +118,8 @@ pub struct Streams<R, O, E> {
 /// - N = 6: a worker of a run in threads made all its turns before the end of the run, and the committed records were
 ///   written.
 /// - N = 7: the words or the input are refused, and nothing was written. TEXT names the first bad option, `command-line` if
-///   the words have no meaning, `values` if `make` makes no model of the values, or `input`.
+///   the words have no meaning, `values` if `make` makes no model of the values or one of no process or too many, `lps` if the model
+///   fixes another number of processes than the words give, or `input`.
 /// - N = 8: the step text has a bad line. TEXT names the first one. Nothing was run, and nothing was written.
 /// - N = 9: the output failed. A beginning of the text was written.
 ///
@@ -72,7 +127,7 @@ pub struct Streams<R, O, E> {
 pub fn model_program<
     H: Threads + Wait + Sync,
     M: EventModel + Sync + Drop,
-    F: Fn(&[u32]) -> Option<M>,
+    F: Fn(&[u32]) -> Option<Made<M>>,
     S: AsStr,
     R: Read,
     O: Write,
@@ -119,10 +174,21 @@ where
         requires { BeginsWithinLimit task.now × ((values : _) → values.now ≡ chosen.now.values.items → F.pre make values) }
         ensures { CarriesOut (λ model. any_handlers (M.handlers model)) (MakesBy (λ values made. FnReturnsAt F.Fn make values made)) chosen.now task.now (R.remaining input.old) (R.remaining input.new) (O.contents output.old) (O.contents output.new) result }
     {
-        let Some(model) = make(chosen.values.as_slice()) else {
+        let Some(made) = make(chosen.values.as_slice()) else {
             return Err(Fault::BadOption("values"));
         };
-        carry_out(rt, alloc, &model, task, watch, input, output)
+        match settled(fixed_by(&made), chosen.lps, task.config()) {
+            Ok(config) => carry_out(
+                rt,
+                alloc,
+                &made.model,
+                &task.with_config(config),
+                watch,
+                input,
+                output,
+            ),
+            Err(unsettled) => Err(fault_of(unsettled)),
+        }
     };
     models_program(
         rt,

@@ -13,7 +13,7 @@ ghost use Rattle.vt_options.specs.Taken.{own_names, taken_in};
 ghost use Rattle.vt_tasks.specs.Refusals.{TellsRefusalOf, status_of};
 ghost use Rattle.vt_runner.specs.OneModel.{IsDoneOf, EndsOf, IsReadOf, IsRefusedUnasked};
 
-use crate::one_model::{OWN_HEADING, Streams, model_program};
+use crate::one_model::{Made, OWN_HEADING, Streams, model_program};
 use std::alloc::Global;
 use std::env;
 use std::env::Env;
@@ -45,7 +45,8 @@ pub fn words_of<H: Env + AllocGlobal>(rt: &H) -> Result<Vec<String>, Fault>
 ///
 /// `texts` is what help shows of the program, `own` are the model's options, each with a default in its range, and `watch` is told
 /// how far a run is. `make` makes the model of the options' values, which come in the order of `own`, each in its range. It has to
-/// work for all such values. `None`: these values make no model, and the program refuses them.
+/// work for all such values. `None`: these values make no model, and the program refuses them. A model that fixes a number of processes
+/// ([`Made::fixed`]) makes it the default of `--lps`, and refuses any other.
 ///
 /// No contract says what the words of the process are: status 0 means that for some words all that they ask for was written.
 ///
@@ -54,7 +55,7 @@ pub fn words_of<H: Env + AllocGlobal>(rt: &H) -> Result<Vec<String>, Fault>
 pub fn run_program<
     H: Threads + Wait + Sync + Env + AllocGlobal,
     M: EventModel + Sync + Drop,
-    F: Fn(&[u32]) -> Option<M>,
+    F: Fn(&[u32]) -> Option<Made<M>>,
     R: Read,
     O: Write,
     E: Write,

@@ -8,7 +8,7 @@ use Rattle.vt_model.specs.declared.rows.Record.{Record}
 use Rattle.vt_model.specs.Handler.{Handlers}
 use Rattle.vt_key.specs.Times.{Time}
 use Rattle.vt_model.specs.Simulation.{Simulation, simulation_of}
-use Rattle.vt_model.specs.Sequential.{seq_records}
+use Rattle.vt_model.specs.Sequential.{seq_records, seq_finals}
 use Rattle.vt_steps.specs.Finals.{worker_finals}
 use Rattle.vt_places.specs.declared.view.View.{View}
 use Rattle.vt_station.specs.declared.job.Post.{Post}
@@ -17,6 +17,8 @@ use Rattle.vt_station.specs.declared.pieces.Standing.{Standing}
 use Rattle.vt_station.specs.declared.pieces.Standing.TheVariants.{GoesOn, Whole, Stopped}
 use Rattle.vt_station.specs.declared.driver.Outcome.{Outcome}
 use Rattle.vt_station.specs.declared.driver.Outcome.TheVariants.{Closed, Refused}
+use Rattle.vt_station.specs.declared.driver.Wanted.{Wanted}
+use Rattle.vt_station.specs.declared.driver.Wanted.TheVariants.{Records, Finals}
 use Rattle.vt_places.specs.Told.{place_table, place_view}
 use Rattle.vt_places.specs.AtWork.{AtWork}
 use Rattle.vt_places.specs.Making.{IsNew}
@@ -136,6 +138,11 @@ pub record IsSameWork {M : Type 0} (old new : List (AtJob M)) : Type 0 where
 abbrev pub IsStop : Config → Fault → List Record → Type 0
 IsStop config fault records = IsLasting fault ⊎ (fault ≡ TurnsSpent) ⊎ ((fault ≡ Busy) × (1 < config.workers) × (records ≡ []))
 
+-- the final values that are wanted of a run: none, or those of the sequential run
+abbrev pub wanted_finals : {S P : Type 0} → Wanted → Simulation S P → List ℕ
+wanted_finals Records sim = []
+wanted_finals Finals sim = seq_finals sim
+
 -- these are the records of the sequential run below a time but for the first of them, and they can be counted
 pub record IsPieceOf {S P : Type 0} (sim : Simulation S P) (from : ℕ) (records : List Record) (floor : Time) : Type 0 where
   pub beginning : from ≤ length (seq_records sim floor)
@@ -154,11 +161,13 @@ pub record AtCrew (M : Type 0) : Type 0 where
   pub model : M
   pub config : Config
   pub jobs : List (AtJob M)
+  pub wanted : Wanted
   pub standing : Standing
 
--- what holds of them between calls: they work for this model and this config, there are some, and the run stands as their work has
--- ended
+-- what holds of them between calls: they work for this model and this config, there are some, in order, and the run stands as their
+-- work has ended
 pub record IsCrew {M : Type 0} (model : M) (config : Config) (standing : Standing) (jobs : List (AtJob M)) : Type 0 where
   pub told : AllAt model config jobs
   pub some : 0 < length jobs
+  pub order : AreInOrder jobs
   pub stands : StandsBy jobs standing

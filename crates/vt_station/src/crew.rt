@@ -8,9 +8,9 @@ ghost use Rattle.vt_model.specs.Settings.{end_of};
 ghost use Rattle.vt_key.specs.declared.fault.Fault.TheVariants.{Memory, Busy, TurnsSpent};
 ghost use Rattle.vt_steps.specs.Finals.{final_value};
 ghost use Rattle.vt_station.specs.declared.driver.Outcome.TheVariants.{Closed};
-ghost use Rattle.vt_station.specs.declared.driver.Wanted.TheVariants.{Finals, Records};
+ghost use Rattle.vt_station.specs.declared.driver.Wanted.TheVariants.{Records};
 ghost use Rattle.vt_station.specs.Turns.{IsLasting};
-ghost use Rattle.vt_station.specs.Crew.{IsSameJob, IsSameWork, AllAt, AreInOrder, IsClosedAt, NoneClosed, NoneClosedBefore, first_fault, IsToldBy, IsStop};
+ghost use Rattle.vt_station.specs.Crew.{IsSameJob, IsSameWork, AllAt, AreInOrder, IsClosedAt, NoneClosed, NoneClosedBefore, first_fault, IsToldBy, IsStop, wanted_finals};
 
 use crate::bell::Bells;
 use crate::driver::{Outcome, Wanted};
@@ -169,7 +169,7 @@ fn all_finals<M: EventModel>(
 /// The final values, if they are wanted; otherwise none.
 ///
 /// [`Fault::Memory`]: as [`all_finals`] says.
-fn finals_of<M: EventModel>(
+pub(crate) fn finals_of<M: EventModel>(
     alloc: Global,
     model: &M,
     config: Config,
@@ -178,7 +178,7 @@ fn finals_of<M: EventModel>(
 ) -> Result<Vec<u64>, Fault>
     requires told { AllAt model.now config jobs.now }
     requires order { AreInOrder jobs.now }
-    ensures finals { wanted ≡ Finals → IfOk result (λ v. v.items ≡ seq_finals (simulation_of (M.handlers model.now) config)) }
+    ensures finals { IfOk result (λ v. v.items ≡ wanted_finals wanted (simulation_of (M.handlers model.now) config)) }
     ensures none { wanted ≡ Records → IsOkAnd result (λ v. v.items ≡ []) }
     ensures refused { IfErr result (λ fault. fault ≡ Memory) }
 {
@@ -242,7 +242,7 @@ where
     M::State: Send,
     M::Kept: Send,
     ensures whole { IfOk result (λ v. v.records.items ≡ seq_records (simulation_of (M.handlers model.now) config) (end_of config)) }
-    ensures finals { task.now.wanted ≡ Finals → IfOk result (λ v. v.finals.items ≡ seq_finals (simulation_of (M.handlers model.now) config)) }
+    ensures finals { IfOk result (λ v. v.finals.items ≡ wanted_finals task.now.wanted (simulation_of (M.handlers model.now) config)) }
     ensures begun { IfErr result (λ stopped. (t : TimeValue) × (stopped.records.items ≡ seq_records (simulation_of (M.handlers model.now) config) t)) }
     ensures fault { IfErr result (λ stopped. IsStop config stopped.fault stopped.records.items) }
 {
@@ -317,16 +317,55 @@ where
     ensures begun { IfErr result (λ stopped. (t : TimeValue) × (stopped.records.items ≡ seq_records (simulation_of (M.handlers model.now) config) t)) }
     ensures fault { IfErr result (λ stopped. IsStop config stopped.fault stopped.records.items) }
 {
+    match run_workers_wanting(
+        rt,
+        alloc,
+        config,
+        model,
+        gate,
+        watch,
+        max_turns,
+        Wanted::Records,
+    ) {
+        Ok(finished) => Ok(finished.records),
+        Err(stopped) => Err(stopped),
+    }
+}
+
+/// Runs a model as [`run_workers_watched`] does, and gives the final value of each process too, if that is wanted; otherwise no final
+/// values.
+///
+/// [`Stopped`]: as [`run_workers_to_finals`] says, or [`run_workers`] if none are wanted.
+pub fn run_workers_wanting<
+    R: Threads + Wait + Sync,
+    M: EventModel + Sync,
+    G: Gate + Sync,
+    W: Watch + Sync,
+>(
+    rt: &R,
+    alloc: Global,
+    config: Config,
+    model: &M,
+    gate: &G,
+    watch: &W,
+    max_turns: u64,
+    wanted: Wanted,
+) -> Result<Finished, Stopped>
+where
+    M::State: Send,
+    M::Kept: Send,
+    ensures whole { IfOk result (λ v. v.records.items ≡ seq_records (simulation_of (M.handlers model.now) config) (end_of config)) }
+    ensures finals { IfOk result (λ v. v.finals.items ≡ wanted_finals wanted (simulation_of (M.handlers model.now) config)) }
+    ensures begun { IfErr result (λ stopped. (t : TimeValue) × (stopped.records.items ≡ seq_records (simulation_of (M.handlers model.now) config) t)) }
+    ensures fault { IfErr result (λ stopped. IsStop config stopped.fault stopped.records.items) }
+{
     let task = Task {
         gate,
         watch,
         turns: max_turns,
-        wanted: Wanted::Records,
+        wanted,
     };
-    match run_crew(rt, alloc, config, model, &task) {
-        Ok(finished) => Ok(finished.records),
-        Err(stopped) => Err(stopped),
-    }
+    run_crew(rt, alloc, config, model, &task)
 }
 
 /// Runs a model as [`run_workers_watched`] does, and gives the final value of each process too: what the model's `finish` makes of its
@@ -355,11 +394,14 @@ where
     ensures begun { IfErr result (λ stopped. (t : TimeValue) × (stopped.records.items ≡ seq_records (simulation_of (M.handlers model.now) config) t)) }
     ensures fault { IfErr result (λ stopped. IsStop config stopped.fault stopped.records.items) }
 {
-    let task = Task {
+    run_workers_wanting(
+        rt,
+        alloc,
+        config,
+        model,
         gate,
         watch,
-        turns: max_turns,
-        wanted: Wanted::Finals,
-    };
-    run_crew(rt, alloc, config, model, &task)
+        max_turns,
+        Wanted::Finals,
+    )
 }

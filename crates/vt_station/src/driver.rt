@@ -54,7 +54,7 @@ pub(crate) enum Outcome {
 
 /// What is wanted of a run.
 #[derive(Clone, Copy)]
-pub(crate) enum Wanted {
+pub enum Wanted {
     /// The records alone.
     Records,
     /// The records, and the final value of each process.

@@ -10,7 +10,10 @@ mod pace;
 mod pieces;
 
 pub use bell::Bells;
-pub use crew::{Finished, Stopped, run_workers, run_workers_to_finals, run_workers_watched};
+pub use crew::{
+    Finished, Stopped, run_workers, run_workers_to_finals, run_workers_wanting, run_workers_watched,
+};
+pub use driver::Wanted;
 pub use gate::{Gate, Open};
 pub use pieces::{Crew, Standing};
 pub use vt_places::{NotMade, Place, Station, Worker, places_tell_the_list};

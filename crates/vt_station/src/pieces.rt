@@ -9,10 +9,10 @@ ghost use Rattle.vt_places.specs.Told.{station_model, station_config, station_ta
 ghost use Rattle.vt_places.specs.Making.{AreNew};
 ghost use Rattle.vt_places.specs.Calls.{IsHandOutRefusal};
 ghost use Rattle.vt_station.specs.declared.pieces.Standing.TheVariants.{GoesOn, Whole};
-ghost use Rattle.vt_station.specs.Crew.{AreUnbegun, IsPieceOf, StandsBy};
+ghost use Rattle.vt_station.specs.Crew.{AreUnbegun, IsPieceOf, StandsBy, wanted_finals};
 
 use crate::bell::Bells;
-use crate::crew::{closer_of, fault_of, work_all};
+use crate::crew::{closer_of, fault_of, finals_of, work_all};
 use crate::driver::Wanted;
 use crate::gate::Gate;
 use crate::job::{Job, Task, jobs_at};
@@ -45,6 +45,7 @@ pub struct Crew<'a, M: EventModel> {
     bells: &'a Bells,
     model: &'a M,
     config: Config,
+    wanted: Wanted,
     standing: Standing,
 }
 
@@ -53,13 +54,14 @@ impl<'a, M: EventModel> Model for Crew<'a, M> {
 
     ghost Value = { AtCrew M };
 
-    ghost view = { λ c. record { model = c.model.now; config = c.config; jobs = c.jobs.items; standing = c.standing } };
+    ghost view = { λ c. record { model = c.model.now; config = c.config; jobs = c.jobs.items; wanted = c.wanted; standing = c.standing } };
 
     ghost invariant = { λ c. IsCrew c.model.now c.config c.standing c.jobs.items };
 }
 
 impl<'a, M: EventModel> Crew<'a, M> {
-    /// The workers of a run that has not begun, at the places that their station made for them. The bells are as many as they are.
+    /// The workers of a run that has not begun, at the places that their station made for them. The bells are as many as they are. Where
+    /// final values are `wanted`, each worker makes those of its own processes at the end of its work.
     ///
     /// [`Fault::Memory`]: memory was refused.
     pub fn new(
@@ -69,11 +71,12 @@ impl<'a, M: EventModel> Crew<'a, M> {
         model: &'a M,
         config: Config,
         places: Vec<Place<M::Payload>>,
+        wanted: Wanted,
     ) -> Result<Crew<'a, M>, Fault>
         requires told { (station_model station.now ≡ model.now) × (station_config station.now ≡ config) }
         requires count { length places.items ≡ config.workers }
         requires places { AreNew (simulation_of (M.handlers model.now) config) (station_table station.now) 0 places.items }
-        ensures made { IfOk result (λ crew. (crew.model ≡ model.now) × (crew.config ≡ config) × (crew.standing ≡ GoesOn) × AreUnbegun crew.jobs) }
+        ensures made { IfOk result (λ crew. (crew.model ≡ model.now) × (crew.config ≡ config) × (crew.wanted ≡ wanted) × (crew.standing ≡ GoesOn) × AreUnbegun crew.jobs) }
         ensures refused { IfErr result (λ fault. fault ≡ Memory) }
     {
         let jobs = jobs_at(alloc, station, bells, model, config, places)?;
@@ -82,6 +85,7 @@ impl<'a, M: EventModel> Crew<'a, M> {
             bells,
             model,
             config,
+            wanted,
             standing: Standing::GoesOn,
         })
     }
@@ -102,7 +106,7 @@ impl<'a, M: EventModel> Crew<'a, M> {
         M: Sync,
         M::State: Send,
         M::Kept: Send,
-        ensures same { (self.new.model ≡ self.old.model) × (self.new.config ≡ self.old.config) }
+        ensures same { (self.new.model ≡ self.old.model) × (self.new.config ≡ self.old.config) × (self.new.wanted ≡ self.old.wanted) }
         ensures told { (result ≡ self.new.standing) × StandsBy self.new.jobs result }
         ensures over { (self.old.standing ≡ GoesOn → ⊥) → self.new ≡ self.old }
     {
@@ -111,7 +115,7 @@ impl<'a, M: EventModel> Crew<'a, M> {
                 gate,
                 watch,
                 turns,
-                wanted: Wanted::Records,
+                wanted: self.wanted,
             };
             self.bells.reopen();
             work_all(rt, alloc, &task, self.jobs.as_mut_slice());
@@ -136,6 +140,22 @@ impl<'a, M: EventModel> Crew<'a, M> {
             unreachable!()
         };
         job.hand_out(from, records)
+    }
+
+    /// The final value of each process of a run that is whole, in rising order of processes: what the model's `finish` makes of its
+    /// state. None if final values aren't wanted.
+    ///
+    /// [`Fault::NotLawful`]: the run isn't whole. [`Fault::Memory`]: it is, and memory was refused, to a worker or here.
+    pub fn finals(&self, alloc: Global) -> Result<Vec<u64>, Fault>
+        ensures values { IfOk result (λ v. v.items ≡ wanted_finals self.now.wanted (simulation_of (M.handlers self.now.model) self.now.config)) }
+        ensures early { (self.now.standing ≡ Whole → ⊥) → result ≡ Err NotLawful }
+        ensures refused { self.now.standing ≡ Whole → IfErr result (λ fault. fault ≡ Memory) }
+    {
+        let Standing::Whole = self.standing else {
+            return Err(Fault::NotLawful);
+        };
+        let jobs = self.jobs.as_slice();
+        finals_of(alloc, self.model, self.config, jobs, self.wanted)
     }
 }
 

@@ -1,8 +1,10 @@
 pub mod RefusalLemmas
 pub mod PrintLemmas
+pub mod FinalLemmas
 pub mod OutcomeLemmas
 pub mod ReplyLemmas
 pub mod ReplayLemmas
 pub mod ModelsLemmas
 pub mod ProgramLemmas
 pub mod ShareLemmas
+pub mod TaskLemmas

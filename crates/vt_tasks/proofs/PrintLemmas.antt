@@ -1,9 +1,9 @@
 -- What a sequential run writes while it goes on.
-use Rattle.std.proofs.Common.{◌≡◌, ◌∙◌, ◌++◌, ℕ, suc, inl, inr, refl, List, [], Option, sym, ap, subst, append-nil, append_assoc}
+use Rattle.std.proofs.Common.{◌≡◌, ◌∙◌, ◌++◌, ℕ, suc, inl, inr, refl, Bool, List, [], Option, Some, None, sym, ap, subst, append-nil, append_assoc}
 use Rattle.std.specs.Io.KnownBytes.{Appends}
 use Rattle.std.proofs.lemmas.List.Concat.{flat_map-append}
 use Rattle.vt_key.specs.declared.fault.Fault.{Fault}
-use Rattle.vt_key.specs.declared.fault.Fault.TheVariants.{Output}
+use Rattle.vt_key.specs.declared.fault.Fault.TheVariants.{Memory, Output}
 use Rattle.vt_model.specs.declared.rows.Record.{Record}
 use Rattle.vt_model.specs.declared.settings.Config.{Config}
 use Rattle.vt_model.specs.Handler.{Handlers}
@@ -14,21 +14,32 @@ use Rattle.vt_seq.specs.Given.{records_to, BeginRun, AddsStep}
 use Rattle.vt_seq.specs.Limits.{IsRunStepRefusal}
 use Rattle.vt_seq.specs.Standing.{Standing, IsAt}
 use Rattle.vt_text.specs.declared.version.Version.{Version}
-use Rattle.vt_text.specs.Records.{first_line, record_text, record_lines, records_text}
+use Rattle.vt_text.specs.Records.{record_text}
 use Rattle.vt_text.specs.Writing.{AppendsBeginning, AppendsAllButHeld}
 use Rattle.vt_text.proofs.TextLemmas.{written, put_on, put_fails, of_longer, flush_fails}
-use Rattle.vt_tasks.specs.Runs.{run_text, PassesInRun, WritesBeginning, StopsRun}
+use Rattle.vt_tasks.specs.Printed.{final_lines, finals_text, printed_first, printed_lines, printed_text}
+use Rattle.vt_tasks.specs.Runs.{run_text, text_below, PassesInRun, WritesBeginning, StopsRun}
 
--- the text of records begins that of more records
-pub records_text-append : (version : Version) (records more : List Record) → records_text version (records ++ more) ≡ records_text version records ++ record_lines version more
-records_text-append version records more =
-    ap (λ l. first_line version ++ l) (flat_map-append (record_text version) records more) ∙ sym (append_assoc (first_line version) (record_lines version records) (record_lines version more))
+-- the lines of records begin those of more records
+pub printed_lines-append : (shown : Option Version) (records more : List Record) → printed_lines shown (records ++ more) ≡ printed_lines shown records ++ printed_lines shown more
+printed_lines-append None records more = refl
+printed_lines-append (Some version) records more = flat_map-append (record_text version) records more
+
+-- and so does their text
+pub printed_text-append : (shown : Option Version) (records more : List Record) → printed_text shown (records ++ more) ≡ printed_text shown records ++ printed_lines shown more
+printed_text-append shown records more =
+    ap (λ l. printed_first shown ++ l) (printed_lines-append shown records more) ∙ sym (append_assoc (printed_first shown) (printed_lines shown records) (printed_lines shown more))
+
+-- no records have no lines
+pub no_lines : (shown : Option Version) → printed_lines shown [] ≡ []
+no_lines None = refl
+no_lines (Some version) = refl
 
 -- a model and a config that are the same make the same simulation
 pub one_run : {M S P K : Type 0} (handlers : M → Handlers S P K) {m m' : M} {c c' : Config} → m ≡ m' → c ≡ c' → simulation_of (handlers m) c ≡ simulation_of (handlers m') c'
 one_run handlers model config = λ j. simulation_of (handlers (model j)) (config j)
 
-module _ (version : Version) {S P K : Type 0} (handlers : Handlers S P K) (config : Config) (old : Option (List ℕ)) where
+module _ (shown : Option Version) {S P K : Type 0} (handlers : Handlers S P K) (config : Config) (old : Option (List ℕ)) where
   -- an execution has made some steps: the text of the first of their records was put, of which some is held, and the other records
   -- are gathered
   pub record IsPrinting {M : Type 0} (now : Option (List ℕ)) (held : List ℕ) (execution : Standing M S P) (gathered : List Record) : Type 0 where
@@ -37,52 +48,60 @@ module _ (version : Version) {S P K : Type 0} (handlers : Handlers S P K) (confi
     pub put : List Record
     pub all : records_to (simulation_of handlers config) steps ≡ put ++ gathered
     pub begins : BeginRun (simulation_of handlers config) (records_to (simulation_of handlers config) steps)
-    pub text : AppendsAllButHeld old now held (records_text version put)
+    pub text : AppendsAllButHeld old now held (printed_text shown put)
 
 -- before the first step the first line is put
-first_put : (version : Version) {start line : List ℕ} → start ≡ [] → line ≡ first_line version → start ++ line ≡ first_line version
-first_put version {line} empty is = ap (λ (l : List ℕ). l ++ line) empty ∙ is
+first_put : (shown : Option Version) {start line : List ℕ} → start ≡ [] → line ≡ printed_first shown → start ++ line ≡ printed_first shown
+first_put shown {line} empty is = ap (λ (l : List ℕ). l ++ line) empty ∙ is
 
-pub opened : {version : Version} {M S P K : Type 0} {handlers : Handlers S P K} {config : Config} {old now : Option (List ℕ)} {held : List ℕ} {execution : Standing M S P} {gathered : List Record}
-    {start line : List ℕ} → start ≡ [] → line ≡ first_line version → IsAt (simulation_of handlers config) 0 execution → gathered ≡ []
-    → AppendsAllButHeld old now held (start ++ line) → IsPrinting version handlers config old now held execution gathered
-opened {version} {handlers} {config} {old} {now} {held} empty is at none first = record {
+pub opened : {shown : Option Version} {M S P K : Type 0} {handlers : Handlers S P K} {config : Config} {old now : Option (List ℕ)} {held : List ℕ} {execution : Standing M S P} {gathered : List Record}
+    {start line : List ℕ} → start ≡ [] → line ≡ printed_first shown → IsAt (simulation_of handlers config) 0 execution → gathered ≡ []
+    → AppendsAllButHeld old now held (start ++ line) → IsPrinting shown handlers config old now held execution gathered
+opened {shown} {handlers} {config} {old} {now} {held} empty is at none first = record {
   steps = 0;
   at = at;
   put = [];
   all = sym none;
   begins = record { rest = seq_records (simulation_of handlers config) (end_of config); whole = refl };
-  text = subst (λ (l : List ℕ). AppendsAllButHeld old now held l) (first_put version empty is ∙ sym (append-nil (first_line version))) first;
+  text = subst (λ (l : List ℕ). AppendsAllButHeld old now held l) (first_put shown empty is ∙ sym (ap (λ l. printed_first shown ++ l) (no_lines shown) ∙ append-nil (printed_first shown))) first;
 }
 
 -- or can't be
-pub first_stops : (version : Version) {S P K : Type 0} (handlers : Handlers S P K) (config : Config) {old now : Option (List ℕ)} {start line : List ℕ} {fault : Fault}
-    → start ≡ [] → line ≡ first_line version → fault ≡ Output → AppendsBeginning old now (start ++ line) → StopsRun (PassesInRun handlers config) old now (run_text version handlers config) fault
-first_stops version handlers config {old} {now} empty is failed h =
-    subst (StopsRun (PassesInRun handlers config) old now (run_text version handlers config)) (sym failed)
-    (of_longer old now (first_line version) (record_lines version (seq_records (simulation_of handlers config) (end_of config)))
-    (subst (λ (l : List ℕ). AppendsBeginning old now l) (first_put version empty is) h))
+pub first_stops : (shown : Option Version) (finals : Bool) {S P K : Type 0} (handlers : Handlers S P K) (config : Config) {old now : Option (List ℕ)} {start line : List ℕ} {fault : Fault}
+    → start ≡ [] → line ≡ printed_first shown → fault ≡ Output → AppendsBeginning old now (start ++ line) → StopsRun (PassesInRun handlers config) old now (run_text shown finals handlers config) fault
+first_stops shown finals handlers config {old} {now} empty is failed h =
+    let last = finals_text finals (simulation_of handlers config) in
+    let records = text_below shown handlers config (end_of config) in
+    subst (StopsRun (PassesInRun handlers config) old now (run_text shown finals handlers config)) (sym failed)
+    (of_longer old now records last
+    (of_longer old now (printed_first shown) (printed_lines shown (seq_records (simulation_of handlers config) (end_of config)))
+    (subst (λ (l : List ℕ). AppendsBeginning old now l) (first_put shown empty is) h)))
 
-module _ {version : Version} {M S P K : Type 0} {handlers : Handlers S P K} {config : Config} {old now : Option (List ℕ)} {held : List ℕ} {execution : Standing M S P} {gathered : List Record}
-    (g : IsPrinting version handlers config old now held execution gathered) where
+module _ {shown : Option Version} {M S P K : Type 0} {handlers : Handlers S P K} {config : Config} {old now : Option (List ℕ)} {held : List ℕ} {execution : Standing M S P} {gathered : List Record}
+    (g : IsPrinting shown handlers config old now held execution gathered) where
   -- what is put, and then what is gathered and what follows, is the text of the whole run
-  whole : run_text version handlers config ≡ records_text version g.put ++ (record_lines version gathered ++ record_lines version g.begins.rest)
-  whole =
-      let sim = simulation_of handlers config in
-      let rest : List Record = g.begins.rest in
-      ap (records_text version) (g.begins.whole ∙ ap (λ (l : List Record). l ++ rest) g.all)
-      ∙ records_text-append version (g.put ++ gathered) rest
-      ∙ ap (λ (l : List ℕ). l ++ record_lines version rest) (records_text-append version g.put gathered)
-      ∙ append_assoc (records_text version g.put) (record_lines version gathered) (record_lines version rest)
+  module _ (finals : Bool) where
+    abbrev last : List ℕ
+    last = finals_text finals (simulation_of handlers config)
 
-  -- a beginning was written
-  begun : WritesBeginning (run_text version handlers config) old now
-  begun = record {
-    beginning = g.text.sent;
-    written = g.text.appends;
-    rest = held ++ (record_lines version gathered ++ record_lines version g.begins.rest);
-    begins = whole ∙ ap (λ (l : List ℕ). l ++ (record_lines version gathered ++ record_lines version g.begins.rest)) g.text.whole ∙ append_assoc g.text.sent held (record_lines version gathered ++ record_lines version g.begins.rest);
-  }
+    whole : run_text shown finals handlers config ≡ printed_text shown g.put ++ (printed_lines shown gathered ++ (printed_lines shown g.begins.rest ++ last))
+    whole =
+        let rest : List Record = g.begins.rest in
+        ap (λ (rs : List Record). printed_text shown rs ++ last) (g.begins.whole ∙ ap (λ (l : List Record). l ++ rest) g.all)
+        ∙ ap (λ (l : List ℕ). l ++ last) (printed_text-append shown (g.put ++ gathered) rest)
+        ∙ append_assoc (printed_text shown (g.put ++ gathered)) (printed_lines shown rest) last
+        ∙ ap (λ (l : List ℕ). l ++ (printed_lines shown rest ++ last)) (printed_text-append shown g.put gathered)
+        ∙ append_assoc (printed_text shown g.put) (printed_lines shown gathered) (printed_lines shown rest ++ last)
+
+    -- a beginning was written
+    begun : WritesBeginning (run_text shown finals handlers config) old now
+    begun =
+        let behind : List ℕ = printed_lines shown gathered ++ (printed_lines shown g.begins.rest ++ last) in record {
+          beginning = g.text.sent;
+          written = g.text.appends;
+          rest = held ++ behind;
+          begins = whole ∙ ap (λ (l : List ℕ). l ++ behind) g.text.whole ∙ append_assoc g.text.sent held behind;
+        }
 
   module _ {own : Simulation S P} (same : own ≡ simulation_of handlers config) where
     own_at : IsAt own g.steps execution
@@ -90,7 +109,7 @@ module _ {version : Version} {M S P K : Type 0} {handlers : Handlers S P K} {con
 
     -- a step's records are gathered
     pub stepped : {later : Standing M S P} {more : List Record} → ((n : ℕ) → IsAt own n execution → IsAt own (suc n) later)
-        → ((n : ℕ) → IsAt own n execution → AddsStep own n gathered more) → IsPrinting version handlers config old now held later more
+        → ((n : ℕ) → IsAt own n execution → AddsStep own n gathered more) → IsPrinting shown handlers config old now held later more
     stepped {later} {more} steps adds =
         let n : ℕ = g.steps in
         let added : AddsStep (simulation_of handlers config) n gathered more = subst (λ (s : Simulation S P). AddsStep s n gathered more) same (adds n own_at) in
@@ -104,25 +123,25 @@ module _ {version : Version} {M S P K : Type 0} {handlers : Handlers S P K} {con
         }
 
     -- a step was refused
-    pub step_stops : {fault : Fault} → ((n : ℕ) → IsAt own n execution → IsRunStepRefusal own n fault) → StopsRun (PassesInRun handlers config) old now (run_text version handlers config) fault
-    step_stops {fault} refused =
+    pub step_stops : (finals : Bool) {fault : Fault} → ((n : ℕ) → IsAt own n execution → IsRunStepRefusal own n fault) → StopsRun (PassesInRun handlers config) old now (run_text shown finals handlers config) fault
+    step_stops finals {fault} refused =
         let n : ℕ = g.steps in
         let why : IsRunStepRefusal (simulation_of handlers config) n fault = subst (λ (s : Simulation S P). IsRunStepRefusal s n fault) same (refused n own_at) in
         elim why [
-          | inl h ↦ subst (StopsRun (PassesInRun handlers config) old now (run_text version handlers config)) (sym h.0) ((suc n, h.1), begun)
-          | inr h ↦ subst (StopsRun (PassesInRun handlers config) old now (run_text version handlers config)) (sym h.0) begun
+          | inl h ↦ subst (StopsRun (PassesInRun handlers config) old now (run_text shown finals handlers config)) (sym h.0) ((suc n, h.1), begun finals)
+          | inr h ↦ subst (StopsRun (PassesInRun handlers config) old now (run_text shown finals handlers config)) (sym h.0) (begun finals)
         ]
 
   -- the lines of the gathered records are put
   module _ {new : Option (List ℕ)} {given : List Record} (is : given ≡ gathered) where
-    gathered_put : {held' : List ℕ} → AppendsAllButHeld now new held' (held ++ record_lines version given) → AppendsAllButHeld old new held' (records_text version (g.put ++ gathered))
+    gathered_put : {held' : List ℕ} → AppendsAllButHeld now new held' (held ++ printed_lines shown given) → AppendsAllButHeld old new held' (printed_text shown (g.put ++ gathered))
     gathered_put {held'} h =
-        subst (λ (l : List ℕ). AppendsAllButHeld old new held' l) (sym (records_text-append version g.put gathered))
-        (put_on old now new held held' (records_text version g.put) (record_lines version gathered) g.text
-        (subst (λ (rs : List Record). AppendsAllButHeld now new held' (held ++ record_lines version rs)) is h))
+        subst (λ (l : List ℕ). AppendsAllButHeld old new held' l) (sym (printed_text-append shown g.put gathered))
+        (put_on old now new held held' (printed_text shown g.put) (printed_lines shown gathered) g.text
+        (subst (λ (rs : List Record). AppendsAllButHeld now new held' (held ++ printed_lines shown rs)) is h))
 
-    pub emptied : {held' : List ℕ} {none : List Record} → AppendsAllButHeld now new held' (held ++ record_lines version given) → none ≡ []
-        → IsPrinting version handlers config old new held' execution none
+    pub emptied : {held' : List ℕ} {none : List Record} → AppendsAllButHeld now new held' (held ++ printed_lines shown given) → none ≡ []
+        → IsPrinting shown handlers config old new held' execution none
     emptied h empty = record {
       steps = g.steps;
       at = g.at;
@@ -133,22 +152,83 @@ module _ {version : Version} {M S P K : Type 0} {handlers : Handlers S P K} {con
     }
 
     -- or can't be
-    pub put_stops : {fault : Fault} → fault ≡ Output → AppendsBeginning now new (held ++ record_lines version given) → StopsRun (PassesInRun handlers config) old new (run_text version handlers config) fault
-    put_stops failed h =
-        subst (StopsRun (PassesInRun handlers config) old new (run_text version handlers config)) (sym failed)
-        (subst (λ (l : List ℕ). AppendsBeginning old new l) (append_assoc (records_text version g.put) (record_lines version gathered) (record_lines version g.begins.rest) ∙ sym whole)
-        (of_longer old new (records_text version g.put ++ record_lines version gathered) (record_lines version g.begins.rest)
-        (put_fails old now new held (records_text version g.put) (record_lines version gathered) g.text
-        (subst (λ (rs : List Record). AppendsBeginning now new (held ++ record_lines version rs)) is h))))
+    pub put_stops : (finals : Bool) {fault : Fault} → fault ≡ Output → AppendsBeginning now new (held ++ printed_lines shown given) → StopsRun (PassesInRun handlers config) old new (run_text shown finals handlers config) fault
+    put_stops finals failed h =
+        let behind : List ℕ = printed_lines shown g.begins.rest ++ last finals in
+        subst (StopsRun (PassesInRun handlers config) old new (run_text shown finals handlers config)) (sym failed)
+        (subst (λ (l : List ℕ). AppendsBeginning old new l) (append_assoc (printed_text shown g.put) (printed_lines shown gathered) behind ∙ sym (whole finals))
+        (of_longer old new (printed_text shown g.put ++ printed_lines shown gathered) behind
+        (put_fails old now new held (printed_text shown g.put) (printed_lines shown gathered) g.text
+        (subst (λ (rs : List Record). AppendsBeginning now new (held ++ printed_lines shown rs)) is h))))
 
     -- at the end, when nothing is pending, they are the last
     pub last_put : {own : Simulation S P} {held' : List ℕ} → own ≡ simulation_of handlers config → execution.pending ≡ []
         → ((n : ℕ) → IsAt own n execution → execution.pending ≡ [] → records_to own n ≡ seq_records own own.end)
-        → AppendsAllButHeld now new held' (held ++ record_lines version given) → AppendsAllButHeld old new held' (run_text version handlers config)
+        → AppendsAllButHeld now new held' (held ++ printed_lines shown given) → AppendsAllButHeld old new held' (text_below shown handlers config (end_of config))
     last_put {own} {held'} same none all h =
         let ended : records_to (simulation_of handlers config) g.steps ≡ seq_records (simulation_of handlers config) (end_of config) =
         subst (λ (s : Simulation S P). records_to s g.steps ≡ seq_records s s.end) same (all g.steps (own_at same) none) in
-        subst (λ (l : List ℕ). AppendsAllButHeld old new held' l) (ap (records_text version) (sym g.all ∙ ended)) (gathered_put h)
+        subst (λ (l : List ℕ). AppendsAllButHeld old new held' l) (ap (printed_text shown) (sym g.all ∙ ended)) (gathered_put h)
+
+-- all records are put, of whose text some is held, and then final values
+module _ (shown : Option Version) (finals : Bool) {S P K : Type 0} (handlers : Handlers S P K) (config : Config) {old now : Option (List ℕ)} {held : List ℕ}
+    (put : AppendsAllButHeld old now held (text_below shown handlers config (end_of config))) where
+  -- they were refused
+  pub finals_refused : {fault : Fault} → fault ≡ Memory → StopsRun (PassesInRun handlers config) old now (run_text shown finals handlers config) fault
+  finals_refused is =
+      let last = finals_text finals (simulation_of handlers config) in
+      subst (StopsRun (PassesInRun handlers config) old now (run_text shown finals handlers config)) (sym is) (record {
+        beginning = put.sent;
+        written = put.appends;
+        rest = held ++ last;
+        begins = ap (λ (l : List ℕ). l ++ last) put.whole ∙ append_assoc put.sent held last;
+      })
+
+  module _ (values : List ℕ) {own : Simulation S P} (same : own ≡ simulation_of handlers config) (are : final_lines 0 values ≡ finals_text finals own) where
+    lines_are : final_lines 0 values ≡ finals_text finals (simulation_of handlers config)
+    lines_are = are ∙ ap (λ (s : Simulation S P). finals_text finals s) same
+
+    -- their lines are put
+    pub finals_put : {new : Option (List ℕ)} {held' : List ℕ} → AppendsAllButHeld now new held' (held ++ final_lines 0 values) → AppendsAllButHeld old new held' (run_text shown finals handlers config)
+    finals_put {new} {held'} h =
+        put_on old now new held held' (text_below shown handlers config (end_of config)) (finals_text finals (simulation_of handlers config)) put
+        (subst (λ (l : List ℕ). AppendsAllButHeld now new held' (held ++ l)) lines_are h)
+
+    -- or can't be
+    pub finals_stop : {new : Option (List ℕ)} {fault : Fault} → fault ≡ Output → AppendsBeginning now new (held ++ final_lines 0 values) → StopsRun (PassesInRun handlers config) old new (run_text shown finals handlers config) fault
+    finals_stop {new} failed h =
+        subst (StopsRun (PassesInRun handlers config) old new (run_text shown finals handlers config)) (sym failed)
+        (put_fails old now new held (text_below shown handlers config (end_of config)) (finals_text finals (simulation_of handlers config)) put
+        (subst (λ (l : List ℕ). AppendsBeginning now new (held ++ l)) lines_are h))
+
+-- records and final values that are there at once: the first line is put, the lines of the records, and then those of the values
+module _ (shown : Option Version) (records : List Record) (values : List ℕ) {old now : Option (List ℕ)} {start line : List ℕ} (empty : start ≡ []) (is : line ≡ printed_first shown) where
+  -- the first line can't be put
+  pub result-first : AppendsBeginning old now (start ++ line) → AppendsBeginning old now (printed_text shown records ++ final_lines 0 values)
+  result-first h =
+      of_longer old now (printed_text shown records) (final_lines 0 values)
+      (of_longer old now (printed_first shown) (printed_lines shown records) (subst (λ (l : List ℕ). AppendsBeginning old now l) (first_put shown empty is) h))
+
+  module _ {held : List ℕ} (first : AppendsAllButHeld old now held (start ++ line)) where
+    first-held : AppendsAllButHeld old now held (printed_first shown)
+    first-held = subst (λ (l : List ℕ). AppendsAllButHeld old now held l) (first_put shown empty is) first
+
+    -- or the lines of the records
+    pub result-lines : {new : Option (List ℕ)} → AppendsBeginning now new (held ++ printed_lines shown records) → AppendsBeginning old new (printed_text shown records ++ final_lines 0 values)
+    result-lines {new} h =
+        of_longer old new (printed_text shown records) (final_lines 0 values) (put_fails old now new held (printed_first shown) (printed_lines shown records) first-held h)
+
+    module _ {mid : Option (List ℕ)} {held' : List ℕ} (lines : AppendsAllButHeld now mid held' (held ++ printed_lines shown records)) where
+      text-held : AppendsAllButHeld old mid held' (printed_text shown records)
+      text-held = put_on old now mid held held' (printed_first shown) (printed_lines shown records) first-held lines
+
+      -- or those of the values
+      pub result-finals : {new : Option (List ℕ)} → AppendsBeginning mid new (held' ++ final_lines 0 values) → AppendsBeginning old new (printed_text shown records ++ final_lines 0 values)
+      result-finals {new} h = put_fails old mid new held' (printed_text shown records) (final_lines 0 values) text-held h
+
+      -- or what is held of them at the end
+      pub result-held : {new : Option (List ℕ)} {last : List ℕ} → AppendsAllButHeld mid new last (held' ++ final_lines 0 values) → AppendsAllButHeld old new last (printed_text shown records ++ final_lines 0 values)
+      result-held {new} {last} h = put_on old mid new held' last (printed_text shown records) (final_lines 0 values) text-held h
 
 -- what is held at the end is written, or can't be
 module _ {old new : Option (List ℕ)} {held text : List ℕ} (put : AppendsAllButHeld old new held text) where

@@ -1,4 +1,5 @@
 pub mod Refusals
+pub mod Printed
 pub mod Runs
 pub mod Replays
 pub mod Replying

@@ -102,8 +102,8 @@ module _ {C : Type 0} (meaning : C → AnyHandlers) (Makes : Chosen → Config �
     AskReplay = AskReplayOf;
     synch_of = λ r. r.settings.synch;
     workers_of = λ r. r.config.workers;
-    text_of = λ r. run_text r.settings.text (meaning r.model).handlers r.config;
-    text_below = λ r time. text_below r.settings.text (meaning r.model).handlers r.config time;
+    text_of = λ r. run_text r.settings.records r.settings.finals (meaning r.model).handlers r.config;
+    text_below = λ r time. text_below r.settings.records (meaning r.model).handlers r.config time;
     Passes = λ r. PassesInRun (meaning r.model).handlers r.config;
     config_of = λ r. r.config;
     IsOutput = λ r steps text. IsReplayOf r.settings.text (meaning r.model).handlers r.config r.settings.serial steps text;

@@ -1,5 +1,5 @@
 -- The text of a run, and how much of it a run writes that is refused.
-use Rattle.std.specs.Prelude.{◌≡◌, ◌<◌, ℕ, List, ◌++◌, Option}
+use Rattle.std.specs.Prelude.{◌≡◌, ◌<◌, ℕ, Bool, List, ◌++◌, Option}
 use Rattle.std.specs.Io.KnownBytes.{Appends}
 use Rattle.vt_key.specs.Times.{Time}
 use Rattle.vt_key.specs.declared.fault.Fault.{Fault}
@@ -11,19 +11,20 @@ use Rattle.vt_model.specs.Sequential.{seq_records}
 use Rattle.vt_model.specs.Settings.{end_of}
 use Rattle.vt_seq.specs.Limits.{PassesNumberLimit}
 use Rattle.vt_text.specs.declared.version.Version.{Version}
-use Rattle.vt_text.specs.Records.{records_text}
 use Rattle.vt_text.specs.Writing.{AppendsBeginning}
 use Rattle.vt_options.specs.declared.choices.RunSettings.{RunSettings}
 use Rattle.vt_options.specs.declared.choices.Synch.{Synch}
 use Rattle.vt_options.specs.declared.choices.Synch.TheVariants.{Sequential, Optimistic}
+use Rattle.vt_tasks.specs.Printed.{printed_text, finals_text}
 
--- the records of a model's sequential run below a time, as text of a version
-abbrev pub text_below : {S P K : Type 0} → Version → Handlers S P K → Config → Time → List ℕ
-text_below version handlers config time = records_text version (seq_records (simulation_of handlers config) time)
+-- the records of a model's sequential run below a time, as text of a version, or nothing where they aren't printed
+abbrev pub text_below : {S P K : Type 0} → Option Version → Handlers S P K → Config → Time → List ℕ
+text_below shown handlers config time = printed_text shown (seq_records (simulation_of handlers config) time)
 
--- the records of a model's whole sequential run, as text of a version
-abbrev pub run_text : {S P K : Type 0} → Version → Handlers S P K → Config → List ℕ
-run_text version handlers config = text_below version handlers config (end_of config)
+-- the text of a model's sequential run: all its records, where they are printed, and then the final value of each process in rising
+-- order, where these are
+abbrev pub run_text : {S P K : Type 0} → Option Version → Bool → Handlers S P K → Config → List ℕ
+run_text shown finals handlers config = text_below shown handlers config (end_of config) ++ finals_text finals (simulation_of handlers config)
 
 -- some step of a model's sequential run would take a send number past its limit
 abbrev pub PassesInRun : {S P K : Type 0} → Handlers S P K → Config → Type 0
@@ -71,16 +72,16 @@ StopsBy Optimistic workers Passes below whole old new fault = StopsWork workers 
 module _ {S P K : Type 0} (handlers : Handlers S P K) (s : RunSettings) where
   -- the text of the whole run was written
   abbrev pub WritesWhole : Option (List ℕ) → Option (List ℕ) → Type 0
-  WritesWhole old new = Appends old new (run_text s.text handlers s.config)
+  WritesWhole old new = Appends old new (run_text s.records s.finals handlers s.config)
 
   -- what a run in one thread that was refused wrote
   abbrev pub StopsInOne : Option (List ℕ) → Option (List ℕ) → Fault → Type 0
-  StopsInOne old new = StopsRun (PassesInRun handlers s.config) old new (run_text s.text handlers s.config)
+  StopsInOne old new = StopsRun (PassesInRun handlers s.config) old new (run_text s.records s.finals handlers s.config)
 
   -- what a run in threads that was refused wrote
   abbrev pub StopsInThreads : Option (List ℕ) → Option (List ℕ) → Fault → Type 0
-  StopsInThreads = StopsWork s.config.workers (text_below s.text handlers s.config) (run_text s.text handlers s.config)
+  StopsInThreads = StopsWork s.config.workers (text_below s.records handlers s.config) (run_text s.records s.finals handlers s.config)
 
   -- what a run of the kind that the settings name wrote, where it was refused
   abbrev pub StopsAsSet : Option (List ℕ) → Option (List ℕ) → Fault → Type 0
-  StopsAsSet = StopsBy s.synch s.config.workers (PassesInRun handlers s.config) (text_below s.text handlers s.config) (run_text s.text handlers s.config)
+  StopsAsSet = StopsBy s.synch s.config.workers (PassesInRun handlers s.config) (text_below s.records handlers s.config) (run_text s.records s.finals handlers s.config)

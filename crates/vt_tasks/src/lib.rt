@@ -5,12 +5,14 @@
 #![tactic(auto)]
 
 mod counting;
+mod printed;
 mod printing;
 mod program;
 mod refusal;
 mod replaying;
 mod running;
 
+pub use printed::print_result;
 pub use printing::Shares;
 pub use program::models_program;
 pub use refusal::tell_refusal;

@@ -4,6 +4,7 @@ ghost use Rattle.std.specs.Prelude.{◌≡◌, ◌*◌, take, drop, OnOk, IfErr,
 ghost use Rattle.std.specs.Io.KnownBytes.{Appends};
 ghost use Rattle.vt_text.specs.Records.{record_lines};
 ghost use Rattle.vt_text.specs.Writing.{AppendsBeginning};
+ghost use Rattle.vt_tasks.specs.Printed.{printed_lines};
 ghost use Rattle.vt_tasks.specs.Shares.{HasLines};
 
 use std::alloc::Global;
@@ -134,11 +135,29 @@ impl Shares {
         Shares { shares }
     }
 
-    /// Writes the lines of records in a version, as [`put_lines`] does. The threads make them. At a time each has memory for the
-    /// lines of 16,384 records; where it is refused, this thread makes those lines alone.
+    /// Writes the lines of records in a version, as [`put_lines`] does; nothing without one. The threads make them. At a time each has
+    /// memory for the lines of 16,384 records; where it is refused, this thread makes those lines alone.
     ///
     /// [`Fault::Output`] where the writer failed: then a beginning of the lines was written.
     pub fn print<R: Threads + Sync, W: Write>(
+        &mut self,
+        rt: &R,
+        writer: &mut W,
+        records: &[Record],
+        shown: Option<Version>,
+    ) -> Result<(), Fault>
+        ensures ok { OnOk result (Appends (W.contents writer.old) (W.contents writer.new) (printed_lines shown records.now)) }
+        ensures err { OnErr result (AppendsBeginning (W.contents writer.old) (W.contents writer.new) (printed_lines shown records.now)) }
+        ensures fault { IfErr result (λ fault. fault ≡ Fault.Output) }
+    {
+        match shown {
+            Some(version) => self.print_groups(rt, writer, records, version),
+            None => Ok(()),
+        }
+    }
+
+    /// Writes the lines of records in a version, group after group.
+    fn print_groups<R: Threads + Sync, W: Write>(
         &mut self,
         rt: &R,
         writer: &mut W,

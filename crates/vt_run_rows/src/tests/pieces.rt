@@ -9,7 +9,7 @@ use std::sync::Wait;
 use std::thread::Threads;
 use vt_model::{Config, Record};
 use vt_models::Hop;
-use vt_station::{Bells, Crew, Open, Standing, Station, Unwatched};
+use vt_station::{Bells, Crew, Open, Standing, Station, Unwatched, Wanted};
 
 /// The most pieces of a run, each of which has sixteen turns of a worker.
 const MOST_PIECES: u64 = 10_000;
@@ -47,15 +47,25 @@ fn is_over<R: Abort + AllocGlobal + Threads + Wait + Sync>(
     }
 }
 
+/// Whether the final values are there.
+fn has_ended(rt: &impl AllocGlobal, crew: &Crew<'_, Hop>) -> bool {
+    match crew.finals(rt.alloc()) {
+        Ok(finals) => finals.as_slice() == &[66049, 131330][..],
+        Err(_) => false,
+    }
+}
+
 #[test]
 fn a_run_in_pieces_hands_each_record_out_once(rt: HostRuntime) {
     let model = two_hops(&rt);
     let config = Config::new(2, 2, 10, 0).expect(&rt, "config");
     let (station, places) = Station::new(rt.alloc(), &model, config).expect(&rt, "memory");
     let bells = Bells::new(rt.alloc(), 2).expect(&rt, "memory");
-    let mut crew = Crew::new(rt.alloc(), &station, &bells, &model, config, places).expect(
+    let wanted = Wanted::Finals;
+    let mut crew = Crew::new(rt.alloc(), &station, &bells, &model, config, places, wanted).expect(
         &rt, "memory",
     );
+    holds(&rt, !has_ended(&rt, &crew), "no final values yet");
     let all = in_pieces(&rt, &mut crew);
     holds(
         &rt,
@@ -63,4 +73,5 @@ fn a_run_in_pieces_hands_each_record_out_once(rt: HostRuntime) {
         "the records of all pieces",
     );
     holds(&rt, is_over(&rt, &mut crew), "a run that is over");
+    holds(&rt, has_ended(&rt, &crew), "its final values");
 }

@@ -15,7 +15,7 @@ use vt_text::Version;
 const RUN: &str =
     "twarp run --text=1 --travel=14 --service 15 --jobs=16 --span 17 --lookahead=18 --remote 19 \
     --population=6 --rise=8 --delay=7 --stride 3 --hops=9 --seed 258 --end=64 --lps 12 --workers=4 \
-    --turns 5 --synch 3";
+    --turns 5 --synch 3 --records yes";
 
 /// A replay with all its options and those of all models.
 const REPLAY: &str =
@@ -38,7 +38,8 @@ fn is_given(task: Task) -> Result<bool, Fault> {
         synch: Synch::Optimistic,
         config,
         turns: 5,
-        text: Version::One,
+        records: Some(Version::One),
+        finals: false,
     };
     let replay = ReplaySettings {
         config,

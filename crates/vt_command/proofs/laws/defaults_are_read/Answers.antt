@@ -8,8 +8,9 @@ returns c = record {
   run = record {
     run = record { accepted = refl; subcommand = refl };
     options = record {
-      settings = record { synch = refl; config = record { workers = refl; lps = refl; end = refl; seed = refl }; turns = refl; text = refl };
+      settings = record { synch = refl; config = record { workers = refl; lps = refl; end = refl; seed = refl }; turns = refl; records = refl; finals = refl };
       model = record { chosen = refl; values = refl; within = (refl, (refl, (refl, (refl, tt)))) };
+      processes = refl;
       program = inr refl;
       all_good = refl;
     };
@@ -17,8 +18,9 @@ returns c = record {
   run_hop = record {
     run = record { accepted = refl; subcommand = refl };
     options = record {
-      settings = record { synch = refl; config = record { workers = refl; lps = refl; end = refl; seed = refl }; turns = refl; text = refl };
+      settings = record { synch = refl; config = record { workers = refl; lps = refl; end = refl; seed = refl }; turns = refl; records = refl; finals = refl };
       model = record { chosen = refl; values = refl; within = (refl, (refl, (refl, (refl, tt)))) };
+      processes = refl;
       program = inr refl;
       all_good = refl;
     };
@@ -26,8 +28,9 @@ returns c = record {
   run_phold = record {
     run = record { accepted = refl; subcommand = refl };
     options = record {
-      settings = record { synch = refl; config = record { workers = refl; lps = refl; end = refl; seed = refl }; turns = refl; text = refl };
+      settings = record { synch = refl; config = record { workers = refl; lps = refl; end = refl; seed = refl }; turns = refl; records = refl; finals = refl };
       model = record { chosen = refl; values = refl; within = (refl, (refl, (refl, (refl, tt)))) };
+      processes = refl;
       program = inr refl;
       all_good = refl;
     };
@@ -35,8 +38,9 @@ returns c = record {
   run_stations = record {
     run = record { accepted = refl; subcommand = refl };
     options = record {
-      settings = record { synch = refl; config = record { workers = refl; lps = refl; end = refl; seed = refl }; turns = refl; text = refl };
+      settings = record { synch = refl; config = record { workers = refl; lps = refl; end = refl; seed = refl }; turns = refl; records = refl; finals = refl };
       model = record { chosen = refl; values = refl; within = (refl, (refl, (refl, tt))) };
+      processes = refl;
       program = inr refl;
       all_good = refl;
     };
@@ -46,6 +50,7 @@ returns c = record {
     options = record {
       settings = record { config = record { workers = refl; lps = refl; end = refl; seed = refl }; serial = refl; text = refl };
       model = record { chosen = refl; values = refl; within = (refl, (refl, (refl, (refl, tt)))) };
+      processes = refl;
       program = inr refl;
       all_good = refl;
     };
@@ -55,6 +60,7 @@ returns c = record {
     options = record {
       settings = record { config = record { workers = refl; lps = refl; end = refl; seed = refl }; serial = refl; text = refl };
       model = record { chosen = refl; values = refl; within = (refl, (refl, (refl, tt))) };
+      processes = refl;
       program = inr refl;
       all_good = refl;
     };

@@ -16,5 +16,8 @@ returns c = record {
   rise = inl (record { are = record { accepted = refl; subcommand = refl }; bad = refl });
   text = inl (record { are = record { accepted = refl; subcommand = refl }; bad = refl });
   before_text = inl (record { are = record { accepted = refl; subcommand = refl }; bad = refl });
+  finals = inl (record { are = record { accepted = refl; subcommand = refl }; bad = refl });
+  before_finals = inl (record { are = record { accepted = refl; subcommand = refl }; bad = refl });
+  records = inl (record { are = record { accepted = refl; subcommand = refl }; bad = refl });
   text_of_replay = inr (record { are = record { accepted = refl; subcommand = refl }; bad = refl });
 }

@@ -11,6 +11,8 @@ returns c = record {
   unknown = inl (kind.UnknownArgument, (λ e. cc), inl refl);
   twice = inl (kind.ArgumentConflict, (λ e. cc), inl refl);
   no_value = inl (kind.InvalidValue, (λ e. cc), inl refl);
+  flag_with_value = inl (kind.TooManyValues, (λ e. cc), inl refl);
+  finals_of_replay = inl (kind.UnknownArgument, (λ e. cc), inl refl);
   of_replay_alone = inl (kind.UnknownArgument, (λ e. cc), inl refl);
   of_run_alone = inl (kind.UnknownArgument, (λ e. cc), inl refl);
 }

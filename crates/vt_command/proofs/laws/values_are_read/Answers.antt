@@ -4,4 +4,4 @@ use Rattle.vt_command.proofs.laws.values_are_read.Goals as goal
 
 pub returns : goal.returns
 unfolding clap_on_literals
-returns c = record { apart = refl; joined = refl; absent = refl; one = λ text. refl }
+returns c = record { apart = refl; joined = refl; absent = refl; flag = refl; no_flag = refl; one = λ text. refl }

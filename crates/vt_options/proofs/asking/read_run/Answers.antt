@@ -21,3 +21,9 @@ returns-in_err-text-clause-ok c = if_refused _ _ c.from_residual-in_err-text.res
 
 pub returns-in_err-program-clause-ok : goal.returns-in_err-program-clause-ok
 returns-in_err-program-clause-ok c = if_refused _ _ c.from_residual-in_err-program.result c.from_residual-in_err-program.ensures.1
+
+pub returns-in_err-finals-clause-ok : goal.returns-in_err-finals-clause-ok
+returns-in_err-finals-clause-ok c = if_refused _ _ c.from_residual-in_err-finals.result c.from_residual-in_err-finals.ensures.1
+
+pub returns-in_err-records-clause-ok : goal.returns-in_err-records-clause-ok
+returns-in_err-records-clause-ok c = if_refused _ _ c.from_residual-in_err-records.result c.from_residual-in_err-records.ensures.1

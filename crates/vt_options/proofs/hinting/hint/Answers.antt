@@ -1,4 +1,4 @@
-use Rattle.std.proofs.Common.{◌≡◌, ◌⊎◌, ◌∙◌, sym, inl, inr, Some, None, codes, map, subst}
+use Rattle.std.proofs.Common.{rules, ◌≡◌, ◌⊎◌, ◌∙◌, sym, inl, inr, Some, None, codes, map, subst}
 use Rattle.std.proofs.lemmas.Option.{IfSome_then}
 use Rattle.vt_key.specs.declared.fault.Fault.{Fault}
 use Rattle.vt_options.specs.Line.{given_by, texts_by}
@@ -41,4 +41,12 @@ returns g c =
       name = name;
       refused = refused g (goal.at.returns g c).After-table_matches;
       told = inl (record { takes = c.as_str.result.now; word = c.in_ok-word.word.now; given = given; shown = is.0; shown_is = is.1; text_is = is.2 });
+    })
+
+pub returns-then-eq : goal.returns-then-eq
+returns-then-eq g c =
+    IfSome_then c.hint_on_finals.result c.hint_on_finals.ensures (λ line is. record {
+      name = c.in-Err-BadOption.name.now;
+      refused = refused g (goal.at.returns-then-eq g c).After-table_matches;
+      told = inr (inr (inr (record { flag = search rules; text_is = is })));
     })

@@ -18,6 +18,7 @@ returns g c =
       settings = c.in-Ok-Task-Run-default.settings;
       model = chosen.model;
       values = chosen.values.items;
+      lps = chosen.lps;
       choice = chosen.program;
       asked = run;
       more = c.min-more.result;

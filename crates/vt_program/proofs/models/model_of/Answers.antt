@@ -13,7 +13,7 @@ returns-in-Some-clause-ok g c =
 pub returns-in-Some-clause-err : goal.returns-in-Some-clause-err
 returns-in-Some-clause-err g c =
     let told = g.D.Files.told c.args.files.now in
-    IfErr-weaker c.program_model.result _ _ (λ refusal why. elim (refused_so told c.in-Some.program refusal why) [
+    IfErr-weaker c.program_model.result _ _ (λ refusal why. elim (refused_so told c.in-Some.program c.args.chosen.now.lps refusal why) [
       | inl memory ↦ inl memory
       | inr bad ↦ inr (bad.0, subst (λ (o : Option ProgramChoice). MakesBy told c.args.chosen.now o c.args.config (Err bad.0)) (sym c.in-Some.is) bad.1, bad.2)
     ]) c.program_model.ensures.err

@@ -1,6 +1,7 @@
-use Rattle.std.proofs.Common.{◌∙◌, ℕ, List, ap, subst, OnOk}
+use Rattle.std.proofs.Common.{◌∙◌, ℕ, Bool, List, Option, subst, OnOk}
 use Rattle.std.proofs.lemmas.Result.{IfErr-weaker}
 use Rattle.std.specs.Io.KnownBytes.{Appends}
+use Rattle.vt_text.specs.declared.version.Version.{Version}
 use Rattle.vt_tasks.specs.Runs.{text_below, run_text, StopsWork}
 use Rattle.vt_runner.proofs.WorkerLemmas.{text-same, stops-same}
 use Rattle.vt_runner.proofs.simulation.print_optimistic.Goals as goal
@@ -13,7 +14,7 @@ returns-clause-ok g c =
     let d = s.result.config in
     let run = s.ensures.run in
     subst (λ (l : List ℕ). OnOk c.print_work.result (Appends (g.O.Write.contents c.args.out.now) (g.O.Write.contents c.print_work.new.out) l))
-    (ap (λ v. run_text v H d) run.0 ∙ text-same o.text H o.config d run.1 run.2 run.3) c.print_work.ensures.ok
+    ((λ j. run_text (s.ensures.shown.0 j) (s.ensures.shown.1 j) H d) ∙ text-same o.records o.finals H o.config d run.0 run.1 run.2) c.print_work.ensures.ok
 
 pub returns-clause-err : goal.returns-clause-err
 returns-clause-err g c =
@@ -25,4 +26,5 @@ returns-clause-err g c =
     let old = g.O.Write.contents c.args.out.now in
     let new = g.O.Write.contents c.print_work.new.out in
     IfErr-weaker c.print_work.result _ _
-    (λ fault h. stops-same o.text H o.config d run.1 run.2 run.3 old new s.ensures.fewer fault (subst (λ v. StopsWork d.workers (text_below v H d) (run_text v H d) old new fault) run.0 h)) c.print_work.ensures.err
+    (λ fault h. stops-same o.records o.finals H o.config d run.0 run.1 run.2 old new s.ensures.fewer fault
+    (subst (λ (v : Option Version × Bool). StopsWork d.workers (text_below v.0 H d) (run_text v.0 v.1 H d) old new fault) (λ j. (s.ensures.shown.0 j, s.ensures.shown.1 j)) h)) c.print_work.ensures.err

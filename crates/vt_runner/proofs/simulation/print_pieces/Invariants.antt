@@ -7,7 +7,8 @@ abbrev pub invariant-loop : goal.invariant-loop
 invariant-loop g l = record {
   model : l.crew.model ≡ l.fn.crew.model;
   config : l.crew.config ≡ l.fn.crew.config;
+  wanted : l.crew.wanted ≡ l.fn.crew.wanted;
   standing : l.crew.standing ≡ GoesOn;
-  written : (start : _) → AreWritten l.options.text (g.M.Model.handlers l.fn.crew.model) l.options.config start (g.O.Write.contents l.fn.out) 0
-      → AreWritten l.options.text (g.M.Model.handlers l.fn.crew.model) l.options.config start (g.O.Write.contents l.out) l.written;
+  written : (start : _) → AreWritten l.options.records (g.M.Model.handlers l.fn.crew.model) l.options.config start (g.O.Write.contents l.fn.out) 0
+      → AreWritten l.options.records (g.M.Model.handlers l.fn.crew.model) l.options.config start (g.O.Write.contents l.out) l.written;
 }

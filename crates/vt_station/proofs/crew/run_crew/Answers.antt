@@ -48,7 +48,7 @@ pub returns-clause-whole : goal.returns-clause-whole
 returns-clause-whole g c = finished-records c.answer_of.result c.finals_of-finals.result _ c.finish_with.result c.finish_with.ensures.finished c.answer_of.ensures.whole
 
 pub returns-clause-finals : goal.returns-clause-finals
-returns-clause-finals g c wanted = finished-finals c.answer_of.result c.finals_of-finals.result (λ _. Unit {0}) _ c.finish_with.result c.finish_with.ensures.finished (c.finals_of-finals.ensures.finals wanted)
+returns-clause-finals g c = finished-finals c.answer_of.result c.finals_of-finals.result (λ _. Unit {0}) _ c.finish_with.result c.finish_with.ensures.finished c.finals_of-finals.ensures.finals
 
 pub returns-clause-begun : goal.returns-clause-begun
 returns-clause-begun g c =

@@ -8,7 +8,7 @@ abbrev pub invariant-loop-records : goal.invariant-loop-records
 invariant-loop-records g l = record {
   model : l.execution.model ≡ l.fn.execution.model;
   config : l.execution.config ≡ l.fn.options.config;
-  printing : IsPrinting l.fn.options.text (g.M.Model.handlers l.fn.execution.model) l.fn.options.config (g.O.Write.contents l.fn.out) (g.O.Write.contents l.out) l.text l.execution l.records.items;
+  printing : IsPrinting l.fn.options.records (g.M.Model.handlers l.fn.execution.model) l.fn.options.config (g.O.Write.contents l.fn.out) (g.O.Write.contents l.out) l.text l.execution l.records.items;
 }
 
 abbrev pub decreases-loop-records : goal.decreases-loop-records

@@ -37,6 +37,6 @@ returns-clause-piece g c =
     let is = c.in-Some.ensures.value ∙ ap (λ n. slice_index_or jobs n job) c.unwrap_or-reader.ensures in
     let told = inv.told (unwrap_or closer 0) job (reader-there jobs inv.some closer some) in
     subst (Says g c.args.from c.hand_out.result c.hand_out.new.records.items) c.self.view_is
-    (told-of g c.args.from c.hand_out.result c.hand_out.new.records.items job (record { model = i.model.now; config = i.config; jobs = jobs; standing = i.standing })
+    (told-of g c.args.from c.hand_out.result c.hand_out.new.records.items job (record { model = i.model.now; config = i.config; jobs = jobs; wanted = i.wanted; standing = i.standing })
     (ap (λ (j : AtJob g.row.M.Denot). j.model) is ∙ told.0) (ap (λ (j : AtJob g.row.M.Denot). j.config) is ∙ told.1)
     (λ whole. ap (λ (j : AtJob g.row.M.Denot). j.outcome) is ∙ reader-closed jobs inv.some closer some none (subst (StandsBy jobs) whole inv.stands) job) c.hand_out.ensures.piece)

@@ -9,5 +9,6 @@ invariant_of-result g c =
     record {
       told = made.ensures.told.0;
       some = omega (arith, some, made.ensures.told.1);
+      order = made.ensures.order;
       stands = unbegun-stands made.jobs.items made.ensures.begins;
     }

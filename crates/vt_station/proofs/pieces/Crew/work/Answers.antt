@@ -1,6 +1,6 @@
 use Rattle.std.proofs.Common.{◌<◌, List, length, sym, ◌∙◌, ap, subst}
 use Rattle.vt_station.specs.declared.pieces.Crew.TheInside.{Inside}
-use Rattle.vt_station.specs.Crew.{AtJob, AllAt, StandsBy, IsCrew}
+use Rattle.vt_station.specs.Crew.{AtJob, AllAt, AreInOrder, StandsBy, IsCrew}
 use Rattle.vt_station.proofs.CrewLemmas.{whole-again}
 use Rattle.vt_station.proofs.pieces.Crew.work.Given.{Over}
 use Rattle.vt_station.proofs.pieces.Crew.work.Goals.{in-GoesOn, in_default}
@@ -21,9 +21,11 @@ invariant_of-self g c =
           let count = w.work_all.ensures.count ∙ ap length w.as_mut_slice.ensures.value in
           let again = whole-again old.len new old.items (count ∙ sym old.ok.0) in
           let told = w.work_all.ensures.told i.model.now i.config (subst (AllAt i.model.now i.config) (sym w.as_mut_slice.ensures.value) inv.told) in
+          let order = w.work_all.ensures.order (subst (λ (jobs : List (AtJob g.row.M.Denot)). AreInOrder jobs) (sym w.as_mut_slice.ensures.value) inv.order) in
           subst (Holds g) (sym w.self-inside-is) (record {
             told = subst (AllAt i.model.now i.config) (sym again) told;
             some = subst (λ n. 0 < n) (sym (ap length again ∙ count)) inv.some;
+            order = subst (λ (jobs : List (AtJob g.row.M.Denot)). AreInOrder jobs) (sym again) order;
             stands = subst (λ (jobs : List (AtJob g.row.M.Denot)). StandsBy jobs w.standing_of-self-inside.result) w.as_slice.ensures.value w.standing_of-self-inside.ensures;
           })
       | in_default w ↦ subst (Holds g) (sym w.self-inside-is) inv

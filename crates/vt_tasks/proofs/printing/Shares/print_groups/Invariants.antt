@@ -1,7 +1,7 @@
 use Rattle.std.specs.Slice.Iter.{chunks_rest}
 use Rattle.vt_text.specs.Records.{record_lines}
 use Rattle.vt_text.specs.Writing.{AppendsAllButHeld}
-use Rattle.vt_tasks.proofs.printing.Shares.print.Given as goal
+use Rattle.vt_tasks.proofs.printing.Shares.print_groups.Given as goal
 
 -- the lines were written but for those of the groups that are left
 abbrev pub invariant-loop-group : goal.invariant-loop-group

@@ -3,7 +3,7 @@ use Rattle.std.specs.Slice.Iter.{chunks_rest}
 use Rattle.vt_text.specs.Records.{record_lines}
 use Rattle.vt_text.proofs.TextLemmas.{on_err}
 use Rattle.vt_tasks.proofs.ShareLemmas.{share_written, share_stops, all_written, none_yet}
-use Rattle.vt_tasks.proofs.printing.Shares.print.Goals as goal
+use Rattle.vt_tasks.proofs.printing.Shares.print_groups.Goals as goal
 
 pub loop-group-init : goal.loop-group-init
 loop-group-init g c = none_yet _ (ap (record_lines c.args.version) (sym (ap chunks_rest c.into_iter-group-iterator.ensures.into_iter_gives ∙ c.chunks-group-items.ensures.rest)))
