@@ -616,7 +616,7 @@ int main(int count, char **words) {
   twarp_read_data();
   twarp_make_processes();
   twarp_start_all();
-  twarp_fprintf(twarp_out, "twarp-records 2\n");
+  if (!run->silent) twarp_fprintf(twarp_out, "twarp-records 2\n");
   while (run->pending_count != 0) twarp_step();
   if (run->finals) twarp_finish_all();
   if (run->traps != 0) twarp_fprintf(twarp_errors, "%s: %lu handlers trapped\n", run->program, run->traps);
