@@ -1,6 +1,5 @@
-use Rattle.std.proofs.Common.{rules, ◌≡◌, ℕ, ◌-◌, ◌++◌, ◌∙◌, List, length, take, drop, replicate, min, ap, arith}
+use Rattle.std.proofs.Common.{rules, ◌≡◌, ℕ, ◌-◌, ◌++◌, ◌∙◌, length, take, replicate, min, ap, arith}
 use Rattle.std.proofs.lemmas.List.{drop-replicate, take_min}
-use Rattle.vt_guest.specs.Handlers.{padded}
 use Rattle.vt_guest.proofs.guest.Guest.new.Goals as goal
 
 pub returns-clause-first : goal.returns-clause-first
