@@ -10,5 +10,6 @@ mod refusals;
 mod replay;
 mod running;
 mod told;
+mod turns;
 mod watching;
 mod workers;

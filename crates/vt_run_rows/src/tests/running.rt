@@ -47,6 +47,21 @@ pub fn has_given(run: &Result<Vec<Record>, Stopped>, want: &[Record]) -> bool {
     }
 }
 
+/// A run of which each worker makes so many turns at most.
+pub fn ran<R: Abort + AllocGlobal + Threads + Wait + Sync, M: EventModel + Sync, G: Gate + Sync>(
+    rt: &R,
+    model: &M,
+    config: Config,
+    gate: &G,
+    turns: u64,
+) -> Result<Vec<Record>, Stopped>
+where
+    M::State: Send,
+    M::Kept: Send,
+{
+    run_workers(rt, rt.alloc(), config, model, gate, turns)
+}
+
 /// The run through a gate goes to its end and has these records.
 pub fn gives<R: Abort + AllocGlobal + Threads + Wait + Sync, M: EventModel + Sync, G: Gate + Sync>(
     rt: &R,
@@ -59,6 +74,6 @@ where
     M::State: Send,
     M::Kept: Send,
 {
-    let run = run_workers(rt, rt.alloc(), config, model, gate, TURNS);
+    let run = ran(rt, model, config, gate, TURNS);
     holds(rt, has_given(&run, want), "the records of the run");
 }
