@@ -4,6 +4,8 @@ use crate::calls::{
     Giving, NONE, Subject, Told, answer_of, finals_or_again, is_refused, records_or_again,
     sum_of_events, sum_of_numbers, tell_answer, tell_made, tell_refused, time_told, try_calls,
 };
+use crate::counting::Counting;
+use crate::playing::{print_answer, tell, tell_rank, tell_word};
 use std::alloc::Global;
 use std::io;
 use vt_key::{Event, Fault, Stamp};
@@ -15,7 +17,7 @@ use vt_world::{Stop, World};
 // Its calls say nothing: what is known of the world isn't carried from call to call.
 #[derive(Drop)]
 struct Drive<'m> {
-    world: World<'m, Hop>,
+    world: World<'m, Counting<Hop>>,
 }
 
 #[derive(Clone, Copy)]
@@ -26,7 +28,7 @@ enum Call {
 }
 
 impl<'m> Drive<'m> {
-    fn new(alloc: Global, model: &'m Hop, config: Config) -> Result<Drive<'m>, Fault> {
+    fn new(alloc: Global, model: &'m Counting<Hop>, config: Config) -> Result<Drive<'m>, Fault> {
         match World::new(alloc, model, config) {
             Ok(world) => Ok(Drive { world }),
             Err(fault) => Err(fault),
@@ -115,7 +117,11 @@ impl<'m> Subject for Drive<'m> {
 
 const NEW: &str = "World::new";
 
-fn opened<'m>(rt: &HostRuntime, model: &'m Hop, config: Config) -> io::Result<Option<Drive<'m>>> {
+fn opened<'m>(
+    rt: &HostRuntime,
+    model: &'m Counting<Hop>,
+    config: Config,
+) -> io::Result<Option<Drive<'m>>> {
     let mut made = Drive::new(rt.alloc(), model, config);
     if is_refused(&made) {
         tell_refused(rt, NEW, true)?;
@@ -125,7 +131,13 @@ fn opened<'m>(rt: &HostRuntime, model: &'m Hop, config: Config) -> io::Result<Op
 }
 
 // Whether a new world that does these steps tells this.
-fn is_after(alloc: Global, model: &Hop, config: Config, steps: &[Step], wanted: Told) -> bool {
+fn is_after(
+    alloc: Global,
+    model: &Counting<Hop>,
+    config: Config,
+    steps: &[Step],
+    wanted: Told,
+) -> bool {
     match Drive::new(alloc, model, config) {
         Ok(mut twin) => matches!(twin.run(alloc, steps), Ok(0)) && twin.told(alloc) == wanted,
         Err(_) => false,
@@ -158,7 +170,7 @@ fn none_refused(answer: Result<u64, Stop>) -> Result<(), Fault> {
 fn run_ahead(
     rt: &HostRuntime,
     drive: &mut Drive<'_>,
-    model: &Hop,
+    model: &Counting<Hop>,
     config: Config,
 ) -> io::Result<()> {
     let mut answer = drive.run(rt.alloc(), &AHEAD);
@@ -217,12 +229,141 @@ const CALLS: [Call; 5] = [
 
 /// A straggler and its rollback, as one list of steps; then the calls that follow it.
 pub(crate) fn straggler(rt: &HostRuntime) -> io::Result<()> {
-    let (Ok(model), Ok(config)) = (Hop::new(1, 1, 1, 0), Config::new(2, 2, 10, 0)) else {
+    let (Ok(hop), Ok(config)) = (Hop::new(1, 1, 1, 0), Config::new(2, 2, 10, 0)) else {
         return Ok(());
     };
+    let model = Counting::new(hop);
     let Some(mut drive) = opened(rt, &model, config)? else {
         return Ok(());
     };
     run_ahead(rt, &mut drive, &model, config)?;
     try_calls(rt, &mut drive, &CALLS)
+}
+
+// Tells how a list of steps ended: how many were refused; or at which step it stopped, why, the least time, and how many events
+// are past.
+fn tell_end(
+    rt: &HostRuntime,
+    drive: &Drive<'_>,
+    answer: Result<u64, Stop>,
+    past: usize,
+) -> io::Result<()> {
+    match answer {
+        Ok(refused) => println!(rt; "World::run done {refused}"),
+        Err(stop) => {
+            let (at, number) = (stop.at, stop.fault.number());
+            let least = drive.world.least().ticks();
+            println!(rt; "World::run stopped {at} {number} {least} {past}")
+        }
+    }
+}
+
+/// One process, whose token goes home and is executed. Where memory is refused, the first step is done.
+pub(crate) fn stop(rt: &HostRuntime) -> io::Result<()> {
+    let (Ok(hop), Ok(config)) = (Hop::new(1, 0, 1, 0), Config::new(1, 1, 10, 0)) else {
+        return Ok(());
+    };
+    let model = Counting::new(hop);
+    let Some(mut drive) = opened(rt, &model, config)? else {
+        return Ok(());
+    };
+    let answer = drive.run(rt.alloc(), &[Step::Home(0), Step::Execute(0)]);
+    let past = match drive.past(rt.alloc(), 0) {
+        Ok(past) => past.len(),
+        Err(_) => usize::MAX,
+    };
+    tell_end(rt, &drive, answer, past)
+}
+
+/// What process 1 sent twice and took back once is accepted: in the order in which it was sent.
+const IN_ORDER: [Step; 5] = [
+    Step::Accept(0, 0),
+    Step::Accept(0, 0),
+    Step::Accept(0, 0),
+    Step::Cancel(0, OLD),
+    Step::Execute(0),
+];
+
+/// The anti-message first, which waits for its letter.
+const ANTI_MESSAGE_FIRST: [Step; 6] = [
+    Step::Accept(0, 1),
+    Step::Cancel(0, OLD),
+    Step::Accept(0, 0),
+    Step::Cancel(0, OLD),
+    Step::Accept(0, 0),
+    Step::Execute(0),
+];
+
+/// The new letter, which has the old one's key, before both.
+const NEW_LETTER_FIRST: [Step; 6] = [
+    Step::Accept(0, 2),
+    Step::Accept(0, 1),
+    Step::Cancel(0, OLD),
+    Step::Accept(0, 0),
+    Step::Cancel(0, OLD),
+    Step::Execute(0),
+];
+
+/// None of these is lawful then.
+const TOO_LATE: [Step; 3] = [Step::Undo(0), Step::Undo(1), Step::Execute(1)];
+
+fn tell_run(
+    alloc: Global,
+    drive: &mut Drive<'_>,
+    steps: &[Step],
+    text: &mut Vec<u8>,
+) -> io::Result<()> {
+    match drive.run(alloc, steps) {
+        Ok(refused) => tell(text, &[refused]),
+        Err(_) => tell_word(text, "stopped"),
+    }
+}
+
+fn tell_past(alloc: Global, drive: &Drive<'_>, lp: u32, text: &mut Vec<u8>) -> io::Result<()> {
+    tell_word(text, "/")?;
+    if let Ok(past) = drive.past(alloc, lp) {
+        for event in past {
+            tell_word(text, "")?;
+            tell_rank(text, event.rank)?;
+        }
+    }
+    Ok(())
+}
+
+// A line with how many steps were refused: of those up to the letters that are accepted, of these, and of those that come too late; with the
+// least time, how often start, forward and reverse were called, and what each process has executed.
+fn tell_order(
+    rt: &HostRuntime,
+    drive: &mut Drive<'_>,
+    model: &Counting<Hop>,
+    last: &[Step],
+) -> io::Result<()> {
+    let mut text = Vec::new(rt.alloc());
+    let (first, _) = AHEAD.split_at_checked(12).unwrap_or((&[], &[]));
+    tell_run(rt.alloc(), drive, first, &mut text)?;
+    tell_run(rt.alloc(), drive, last, &mut text)?;
+    tell_run(rt.alloc(), drive, &TOO_LATE, &mut text)?;
+    tell(&mut text, &[drive.world.least().ticks()])?;
+    tell(&mut text, &model.calls())?;
+    tell_past(rt.alloc(), drive, 0, &mut text)?;
+    tell_past(rt.alloc(), drive, 1, &mut text)?;
+    print_answer(rt, "World::past", &text)
+}
+
+fn order(rt: &HostRuntime, last: &[Step]) -> io::Result<()> {
+    let (Ok(hop), Ok(config)) = (Hop::new(1, 1, 1, 0), Config::new(2, 2, 10, 0)) else {
+        return Ok(());
+    };
+    let model = Counting::new(hop);
+    match opened(rt, &model, config)? {
+        Some(mut drive) => tell_order(rt, &mut drive, &model, last),
+        None => Ok(()),
+    }
+}
+
+/// The processes have one past, in whichever order their letters come.
+pub(crate) fn orders(rt: &HostRuntime) -> io::Result<()> {
+    order(rt, &IN_ORDER)?;
+    order(rt, &ANTI_MESSAGE_FIRST)?;
+    order(rt, &NEW_LETTER_FIRST)
 }
