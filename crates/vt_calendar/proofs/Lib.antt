@@ -1,0 +1,4 @@
+mod BucketLemmas
+mod MergeLemmas
+mod OrderLemmas
+mod SlotLemmas
