@@ -6,7 +6,7 @@ loop-slot-smaller g c = fewer c.in-Some.slot c.take_all-taken.result c.loop-slot
 
 pub loop-slot-preserved : goal.loop-slot-preserved
 loop-slot-preserved g c = (
-  moved-more c.args.letters.now c.loop-slot.letters c.take_all-taken.result c.put_in_front.new.others c.in-Some.slot c.args.self.now c.loop-slot.self c.take_all-taken.new.self c.loop-slot.invariant.0 c.take_all-taken.ensures c.put_in_front.ensures,
+  moved-more c.args.letters.now c.loop-slot.letters c.take_all-taken.result c.put_in_front.new.others c.in-Some.slot c.args.self.now c.loop-slot.self c.take_all-taken.new.self c.loop-slot.invariant.0 c.take_all-taken.ensures c.put_in_front.ensures.same,
   stayed-more c.args.bound c.in-Some.slot c.take_all-taken.result c.args.self.now c.loop-slot.self c.take_all-taken.new.self c.if-slot-bound.false c.take_all-taken.ensures c.loop-slot.invariant.1,
 )
 
