@@ -114,11 +114,6 @@ module _ {X : Type 0} where
   among-items x (k ∷ lists) zero l h m = let same : l ≡ k = (let z : Some k ≡ Some l = h in cc) in among-left x k (items_in lists) (subst (Among x) same m)
   among-items x (k ∷ lists) (suc i) l h m = among-right x k (items_in lists) (among-items x lists i l h m)
 
-  -- a list that has an item isn't empty
-  pub used-some : (l : List X) → is_used l ≡ true → l ≡ [] → ⊥
-  used-some [] used none = let never : false ≡ true = used in cc
-  used-some (x ∷ l) used none = let never : x ∷ l ≡ [] = none in cc
-
   -- without a mark there is no item
   pub unmarked-none : (lists : List (List X)) → ((i : ℕ) → slice_get (map is_used lists) i ≡ Some true → ⊥) → items_in lists ≡ []
   unmarked-none [] none = refl
