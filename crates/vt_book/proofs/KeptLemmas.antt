@@ -13,10 +13,10 @@ use Rattle.vt_model.specs.Sequential.{rows_before, records_of}
 use Rattle.vt_steps.specs.BookSteps.{may_commit}
 use Rattle.vt_steps.specs.Rows.{rows_in_order, NoneBefore, AreSameRows}
 use Rattle.vt_steps.specs.Letters.{least_of}
-use Rattle.vt_book.specs.Books.{is_within, are_within}
+use Rattle.vt_book.specs.Books.{RunBook, is_within, are_within, may_hand}
 use Rattle.vt_book.specs.Kept.{IsKept}
 use Rattle.vt_steps.proofs.time.Floors.{floor-at}
-use Rattle.vt_book.proofs.RowLists.{same-before, same-none, one-order, first-in-order, every-before, late-rows, order-apart, before-twice}
+use Rattle.vt_book.proofs.RowLists.{same-list_all, same-before, same-none, one-order, first-in-order, every-before, late-rows, order-apart, before-twice}
 
 -- ---- rows that are taken out
 
@@ -78,6 +78,17 @@ lawful end floors w rows floor h = known (slice_get floors w) refl h
           rising = (let l : handed_in ≤ floor = grind (arith, nat_tests) in l);
           late = late-within (least_of end floors) handed_in floor rows (floor-at end floors w handed_in is) (and_parts (time_at_most floor end) _ both.1).1;
         }
+
+-- the same rows are as lawful in another order
+pub same-lawful : (of : RunBook) (w : ℕ) (xs ys : List Row) (floor : Time) → AreSameRows xs ys → may_hand of w xs floor ≡ may_hand of w ys floor
+same-lawful of w xs ys floor h = ap (λ b. may_commit handed_in floor && (time_at_most floor of.end && b)) (within handed_in)
+  where
+    handed_in : Option Time
+    handed_in = slice_get of.book.floors w
+
+    within : (at : Option Time) → are_within at floor xs ≡ are_within at floor ys
+    within None = refl
+    within (Some from) = same-list_all (is_within from floor) xs ys h
 
 -- ---- what is kept after it
 

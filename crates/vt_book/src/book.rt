@@ -111,7 +111,7 @@ impl Book {
         if self.is_closed() {
             return Err(Fault::Closed);
         }
-        if !self.may_hand(worker, batch.rows(), floor) {
+        if !self.may_hand_batch(worker, &batch, floor) {
             return Err(Fault::NotLawful);
         }
         self.take(worker, batch, floor)
@@ -147,6 +147,13 @@ impl Book {
             return false;
         };
         handed_in <= floor && floor <= self.end && are_within(rows, handed_in, floor)
+    }
+
+    /// The same of a batch.
+    fn may_hand_batch(&self, worker: u32, batch: &Batch, floor: When) -> bool
+        ensures { result ≡ may_hand self.now worker batch.now floor }
+    {
+        self.may_hand(worker, batch.rows(), floor)
     }
 
     /// The book's floor: the least of the floors up to which the workers have handed in, which are 0 at first. No

@@ -1,4 +1,4 @@
-use Rattle.std.proofs.Common.{append_assoc, ◌≡◌, ◌≤◌, ◌++◌, [], true, List, sym, ap, ◌∙◌, subst, slice_set}
+use Rattle.std.proofs.Common.{append_assoc, arith, length, length-append, ◌≡◌, ◌≤◌, ◌++◌, [], true, List, sym, ap, ◌∙◌, subst, slice_set}
 use Rattle.std.specs.List.{sum_by}
 use Rattle.vt_key.specs.Times.{Time}
 use Rattle.vt_model.specs.declared.rows.Record.{Record}
@@ -10,6 +10,7 @@ use Rattle.vt_steps.specs.Rows.{AreSameRows, rows_in_order}
 use Rattle.vt_book.specs.Books.{RunBook, may_hand}
 use Rattle.vt_book.specs.Kept.{IsKept}
 use Rattle.vt_steps.proofs.time.Floors.{floor-rises}
+use Rattle.vt_book.proofs.RowLists.{same-behind, same-length}
 use Rattle.vt_book.proofs.KeptLemmas.{lawful, kept-after, late-after}
 use Rattle.vt_book.proofs.book.Book.take.Goals as goal
 
@@ -20,10 +21,17 @@ show_between-requires-clause-late g c =
     let rows = c.args.batch in
     let waiting = c.self.inside.waiting.items in
     let is = lawful end floors c.args.worker rows c.args.floor (subst (λ (b : RunBook). may_hand b c.args.worker rows c.args.floor ≡ true) (sym c.self.view_is) c.requires.0) in
-    let added : c.add.new.waiting.items ≡ waiting ++ rows = c.in_ok-add.ensures.rows ∙ ap (λ (rs : List Row). waiting ++ rs) c.into_rows.ensures in
-    let same : AreSameRows c.add.new.waiting.items (waiting ++ rows) = λ f. ap (sum_by f) added in
+    let same : AreSameRows c.add.new.waiting.items (waiting ++ rows) = λ f. ap (sum_by f) c.in_ok-add.ensures.rows ∙ same-behind waiting rows c.into_rows.result.items c.into_rows.ensures f in
     subst (λ (t : Time). rows_before t c.add.new.waiting.items ≡ []) (sym c.least-shown_to.ensures)
     (late-after (least_of end floors) c.self.inside.history.items rows (c.self.inside.gone.items ++ c.self.inside.shown.items) waiting c.add.new.waiting.items c.self.invariant.kept is.late same)
+
+pub show_between-requires-clause-room : goal.show_between-requires-clause-room
+show_between-requires-clause-room g c =
+    let rows = c.into_rows.result.items in
+    let count = same-length c.args.batch rows c.into_rows.ensures in
+    let added = ap length c.in_ok-add.ensures.rows ∙ length-append c.self.inside.waiting.items rows in
+    let room = c.in_ok-make_room.ensures.room in
+    omega arith
 
 pub invariant_of-self-2 : goal.invariant_of-self-2
 invariant_of-self-2 g c =
@@ -42,8 +50,7 @@ invariant_of-self-2 g c =
       in_order = ap (λ (rs : List Record). gone ++ rs) c.in_ok-make_room.ensures.shown ∙ c.self.invariant.kept.in_order;
       all_there = c.self.invariant.kept.all_there;
     } in
-    let added : c.add.new.waiting.items ≡ waiting ++ rows = c.in_ok-add.ensures.rows ∙ ap (λ (rs : List Row). waiting ++ rs) c.into_rows.ensures in
-    let same : AreSameRows c.add.new.waiting.items (waiting ++ rows) = λ f. ap (sum_by f) added in
+    let same : AreSameRows c.add.new.waiting.items (waiting ++ rows) = λ f. ap (sum_by f) c.in_ok-add.ensures.rows ∙ same-behind waiting rows c.into_rows.result.items c.into_rows.ensures f in
     let more = records_of (rows_in_order (rows_before c.least-risen_to.result c.add.new.waiting.items)) in
     let shown : gone ++ c.show_between.new.shown.items ≡ (gone ++ c.make_room.new.shown.items) ++ more =
     ap (λ (rs : List Record). gone ++ rs) c.show_between.ensures.shown ∙ sym (append_assoc gone c.make_room.new.shown.items more) in
