@@ -75,7 +75,7 @@ impl<P: Copy> Outbox<P> {
     }
 
     /// Puts a letter behind all others. The caller picks the list of all letters after that.
-    fn push(&mut self, letter: Parcel<Letter<P>>)
+    pub fn push(&mut self, letter: Parcel<Letter<P>>)
         ghost letters: { Items (LetterValue P) }
         requires all { letters ≡ self.old.letters ++ letter ∷ [] }
         ensures { self.new ≡ record self.old { letters = letters } }
