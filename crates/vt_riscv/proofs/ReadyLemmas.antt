@@ -1,43 +1,117 @@
 -- Instructions made ready.
-use Rattle.std.proofs.Common.{◌≡◌, inl, inr, ℕ, ◌+◌, ◌-◌, ◌*◌, ◌/◌, ◌%◌, ◌^◌, ◌<◌, ◌∙◌, Bool, if◌then◌else◌, Some, List, [], ◌∷◌, ◌++◌, length, slice_get, get_or, sym, ap, subst, arith}
+use Rattle.std.proofs.Common.{◌≡◌, inl, inr, ℕ, ◌+◌, ◌%◌, ◌^◌, ◌<◌, ◌≤◌, ◌∙◌, Bool, true, false, if◌then◌else◌, Some, List, [], ◌∷◌, ◌++◌, length, slice_get, slice_index, refl, sym, ap, subst, arith}
 use Rattle.std.proofs.lemmas.List.{get_or_append_left, length-append}
 use Rattle.std.proofs.Math.Seq.{get_or-append_seam}
-use Rattle.std.proofs.lemmas.Option.{slice_get_within, slice_get-get_or, get_or_from_slice_get}
 use Rattle.std.proofs.lemmas.Bool.{cases_lt}
 use Rattle.vt_riscv.specs.declared.instruction.Instruction.{Instruction}
-use Rattle.vt_riscv.specs.declared.ready.Ready.{Ready}
-use Rattle.vt_riscv.specs.Readiness.{place_at, IsSmall, IsReady}
+use Rattle.vt_riscv.specs.declared.instruction.Operation.{Operation}
+use Rattle.vt_riscv.specs.declared.instruction.Operation.TheVariants.{Bad}
+use Rattle.vt_riscv.specs.declared.ready.Head.{Head}
+use Rattle.vt_riscv.specs.Readiness.{place_at, step_of, ended, head_at, instruction_of, IsSmall, IsMade, IsReady, IsAimed}
 
-abbrev pub ready_form : Instruction → ℕ → Ready
-ready_form i next = record { operation = i.operation; destination = i.destination; first = i.first; second = i.second; next = next; immediate = i.immediate }
+module _ (compressed : Bool) (list : List Instruction) where
+  -- only the head and the place of the one behind it tell
+  moved : (xs ys : List Head) (k m n : ℕ) → IsReady compressed list xs m k → head_at xs k ≡ head_at ys k → (head_at xs (k + 1)).place ≡ (head_at ys (k + 1)).place → m ≡ n
+      → k + 1 < length ys → IsReady compressed list ys n k
+  moved xs ys k m n is same behind immediate within = record {
+    small = subst IsSmall same is.small;
+    aligned = subst (λ (r : Head). place_at r.place % (if compressed then 2 else 4) ≡ 0) same is.aligned;
+    followed = λ good.
+        let f = is.followed (λ bad. good (ap (λ (r : Head). r.operation) (sym same) ∙ bad)) in
+        let there : (head_at xs k).place ≡ (head_at ys k).place = ap (λ (r : Head). r.place) same in record {
+          there = ap (slice_get list) (sym there) ∙ f.there ∙ (λ j. Some (instruction_of (same j) (behind j) (immediate j)));
+          behind = omega (arith, there, behind, f.behind);
+          next = within;
+          few = omega (arith, behind, f.few);
+        };
+  }
 
-same_length : (k next length : ℕ) → next ≡ k + length / 2 → length % 2 ≡ 0 → 2 * (next - k) ≡ length
-same_length k next length e even = omega (arith, e, even)
+  -- what ends the instructions is `Bad`
+  end_ready : (xs : List Head) (k m place : ℕ) → head_at xs k ≡ ended place → place_at place % (if compressed then 2 else 4) ≡ 0 → IsReady compressed list xs m k
+  end_ready xs k m place is even = record {
+    small = subst IsSmall (sym is) (record { destination = omega arith; first = omega arith; second = omega arith });
+    aligned = subst (λ (r : Head). place_at r.place % (if compressed then 2 else 4) ≡ 0) (sym is) even;
+    followed = λ good. absurd (good (ap (λ (r : Head). r.operation) is));
+  }
 
--- an instruction whose registers exist, with one behind it
-pub made : (compressed : Bool) (list : List Instruction) (k : ℕ) (i : Instruction) (next : ℕ) → slice_get list k ≡ Some i → IsSmall (ready_form i next) → i.length % 2 ≡ 0
-    → place_at k % (if compressed then 2 else 4) ≡ 0 → next ≡ k + i.length / 2 → next < length list → next < 2 ^ 32 → IsReady compressed list k (ready_form i next)
-made compressed list k i next there small even aligned e inside few = record {
-  small = small;
-  followed = λ good. record {
-    there = there ∙ (λ j. Some (record i { length = sym (same_length k next i.length e even) j }));
-    aligned = aligned;
-    behind = omega (arith, e);
-    next = inside;
-    small = few;
-  };
-}
+  -- an instruction that was made
+  made_ready : (xs : List Head) (k place : ℕ) (i : Instruction) (r : Head) → head_at xs k ≡ r → IsMade compressed i place r → slice_get list place ≡ Some i
+      → place_at place % (if compressed then 2 else 4) ≡ 0 → (head_at xs (k + 1)).place ≡ place + step_of compressed i.length → place + step_of compressed i.length < 2 ^ 32 → k + 1 < length xs
+      → IsReady compressed list xs i.immediate k
+  made_ready xs k place i r is made there even behind few within = record {
+    small = subst IsSmall (sym is) made.small;
+    aligned = subst (λ (p : ℕ). place_at p % (if compressed then 2 else 4) ≡ 0) (sym (ap (λ (h : Head). h.place) is ∙ made.here)) even;
+    followed = λ good.
+        let at : (head_at xs k).place ≡ place = ap (λ (h : Head). h.place) is ∙ made.here in
+        let stands = made.stands (λ bad. good (ap (λ (h : Head). h.operation) is ∙ bad)) in record {
+          there = ap (slice_get list) at ∙ there ∙ ap Some stands ∙ (λ j. Some (instruction_of (sym is j) (sym behind j) i.immediate));
+          behind = omega (arith, at, behind);
+          next = within;
+          few = omega (arith, behind, few);
+        };
+  }
 
--- of one more
-pub one_more : (compressed : Bool) (list : List Instruction) (rs : List Ready) (new : Ready) → ((k : ℕ) (r : Ready) → slice_get rs k ≡ Some r → IsReady compressed list k r)
-    → IsReady compressed list (length rs) new → (k : ℕ) (r : Ready) → slice_get (rs ++ new ∷ []) k ≡ Some r → IsReady compressed list k r
-one_more compressed list rs new each last k r e =
-    let within : k < length (rs ++ new ∷ []) = slice_get_within (rs ++ new ∷ []) k r e in
-    let found : get_or (rs ++ new ∷ []) k r ≡ r = get_or_from_slice_get (rs ++ new ∷ []) k r r e in
-    elim (cases_lt k (length rs)) [
-      | inl before ↦ each k r (slice_get-get_or rs k r before ∙ ap Some (sym (get_or_append_left rs (new ∷ []) r k before) ∙ found))
-      | inr past ↦ (
-          let at : k ≡ length rs = omega (arith, past, within, length-append rs (new ∷ [])) in
-          let same : new ≡ r = sym (get_or-append_seam rs new [] r) ∙ ap (λ (j : ℕ). get_or (rs ++ new ∷ []) j r) (sym at) ∙ found in
-          subst (λ (x : Ready). IsReady compressed list k x) same (subst (λ (j : ℕ). IsReady compressed list j new) (sym at) last))
-    ]
+  module _ (heads : List Head) (immediates : List ℕ) (place : ℕ) (many : length immediates ≡ length heads)
+      (each : (k : ℕ) → k < length heads → IsReady compressed list (heads ++ ended place ∷ []) (slice_index immediates k) k)
+      (even : place_at place % (if compressed then 2 else 4) ≡ 0) where
+    -- of one more instruction
+    pub one_more : (i : Instruction) (r : Head) (behind : ℕ) → IsMade compressed i place r → slice_get list place ≡ Some i → behind ≡ place + step_of compressed i.length → behind < 2 ^ 32
+        → (k : ℕ) → k < length (heads ++ r ∷ []) → IsReady compressed list ((heads ++ r ∷ []) ++ ended behind ∷ []) (slice_index (immediates ++ i.immediate ∷ []) k) k
+    one_more i r behind made there step few k inside =
+        let all = (heads ++ r ∷ []) ++ ended behind ∷ [] in
+        let long : length (heads ++ r ∷ []) ≡ length heads + 1 = length-append heads (r ∷ []) in
+        let more : length all ≡ length (heads ++ r ∷ []) + 1 = length-append (heads ++ r ∷ []) (ended behind ∷ []) in
+        let whole : length all ≡ length heads + 2 = omega (arith, more, long) in
+        let new : head_at all (length heads) ≡ r = get_or_append_left (heads ++ r ∷ []) (ended behind ∷ []) (ended 0) (length heads) (omega (arith, long)) ∙ get_or-append_seam heads r [] (ended 0) in
+        elim (cases_lt k (length heads)) [
+          | inl old ↦ (
+              let kept : head_at (heads ++ ended place ∷ []) k ≡ head_at all k =
+              get_or_append_left heads (ended place ∷ []) (ended 0) k old
+              ∙ sym (get_or_append_left (heads ++ r ∷ []) (ended behind ∷ []) (ended 0) k (omega (arith, old, long)) ∙ get_or_append_left heads (r ∷ []) (ended 0) k old) in
+              let next : (head_at (heads ++ ended place ∷ []) (k + 1)).place ≡ (head_at all (k + 1)).place = elim (cases_lt (k + 1) (length heads)) [
+                | inl before ↦ ap (λ (h : Head). h.place) (
+                    get_or_append_left heads (ended place ∷ []) (ended 0) (k + 1) before
+                    ∙ sym (get_or_append_left (heads ++ r ∷ []) (ended behind ∷ []) (ended 0) (k + 1) (omega (arith, before, long)) ∙ get_or_append_left heads (r ∷ []) (ended 0) (k + 1) before))
+                | inr last ↦ (
+                    let at : k + 1 ≡ length heads = omega (arith, old, last) in
+                    ap (λ (n : ℕ). (head_at (heads ++ ended place ∷ []) n).place) at
+                    ∙ ap (λ (h : Head). h.place) (get_or-append_seam heads (ended place) [] (ended 0))
+                    ∙ sym (ap (λ (n : ℕ). (head_at all n).place) at ∙ ap (λ (h : Head). h.place) new ∙ made.here))
+              ] in
+              let same : slice_index immediates k ≡ slice_index (immediates ++ i.immediate ∷ []) k = sym (get_or_append_left immediates (i.immediate ∷ []) 0 k (omega (arith, old, many))) in
+              moved (heads ++ ended place ∷ []) all k (slice_index immediates k) (slice_index (immediates ++ i.immediate ∷ []) k) (each k old) kept next same (omega (arith, old, whole)))
+          | inr past ↦ (
+              let at : length heads ≡ k = omega (arith, past, inside, long) in
+              let seam : slice_index (immediates ++ i.immediate ∷ []) (length heads) ≡ i.immediate = ap (slice_index (immediates ++ i.immediate ∷ [])) (sym many) ∙ get_or-append_seam immediates i.immediate [] 0 in
+              let after : (head_at all (length heads + 1)).place ≡ behind = ap (λ (n : ℕ). (head_at all n).place) (sym long) ∙ ap (λ (h : Head). h.place) (get_or-append_seam (heads ++ r ∷ []) (ended behind) [] (ended 0)) in
+              let is = made_ready all (length heads) place i r new made there even (after ∙ step) (omega (arith, step, few)) (omega (arith, whole)) in
+              subst (λ (n : ℕ). IsReady compressed list all (slice_index (immediates ++ i.immediate ∷ []) n) n) at (subst (λ (m : ℕ). IsReady compressed list all m (length heads)) (sym seam) is))
+        ]
+
+    -- of all of them
+    pub closed : (k : ℕ) → k < length (heads ++ ended place ∷ []) → IsReady compressed list (heads ++ ended place ∷ []) (slice_index (immediates ++ 0 ∷ []) k) k
+    closed k inside =
+        let long : length (heads ++ ended place ∷ []) ≡ length heads + 1 = length-append heads (ended place ∷ []) in
+        elim (cases_lt k (length heads)) [
+          | inl old ↦ subst (λ (m : ℕ). IsReady compressed list (heads ++ ended place ∷ []) m k) (sym (get_or_append_left immediates (0 ∷ []) 0 k (omega (arith, old, many)))) (each k old)
+          | inr past ↦ (
+              let at : k ≡ length heads = omega (arith, past, inside, long) in
+              let last : head_at (heads ++ ended place ∷ []) k ≡ ended place = ap (head_at (heads ++ ended place ∷ [])) at ∙ get_or-append_seam heads (ended place) [] (ended 0) in
+              end_ready (heads ++ ended place ∷ []) k (slice_index (immediates ++ 0 ∷ []) k) place last even)
+        ]
+
+-- the place behind an instruction is one at which another may begin
+pub even_on : (compressed : Bool) (place length : ℕ) → place_at place % (if compressed then 2 else 4) ≡ 0 → place_at (place + step_of compressed length) % (if compressed then 2 else 4) ≡ 0
+even_on true place length even = omega arith
+even_on false place length even = omega (arith, even)
+
+-- of one more instruction that leads somewhere
+pub one_aimed : (heads : List Head) (immediates targets : List ℕ) (new : ℕ) → ((k : ℕ) → k < length targets → IsAimed heads (slice_index immediates k) (slice_index targets k) k)
+    → IsAimed heads (slice_index immediates (length targets)) new (length targets) → (k : ℕ) → k < length (targets ++ new ∷ []) → IsAimed heads (slice_index immediates k) (slice_index (targets ++ new ∷ []) k) k
+one_aimed heads immediates targets new each last k inside = elim (cases_lt k (length targets)) [
+  | inl old ↦ subst (λ (t : ℕ). IsAimed heads (slice_index immediates k) t k) (sym (get_or_append_left targets (new ∷ []) 0 k old)) (each k old)
+  | inr past ↦ (
+      let at : length targets ≡ k = omega (arith, past, inside, length-append targets (new ∷ [])) in
+      subst (λ (n : ℕ). IsAimed heads (slice_index immediates n) (slice_index (targets ++ new ∷ []) n) n) at
+      (subst (λ (t : ℕ). IsAimed heads (slice_index immediates (length targets)) t (length targets)) (sym (get_or-append_seam targets new [] 0)) last))
+]

@@ -1,10 +1,9 @@
--- Ready instructions do what those of the code do.
-use Rattle.std.proofs.Common.{◌≡◌, ℕ, suc, ◌+◌, ◌-◌, ◌*◌, ◌/◌, ◌%◌, ◌^◌, ◌<◌, ◌≤◌, ◌∙◌, false, ◌||◌, not, nat_eq, nat_lt, if◌then◌else◌, Option, Some, None, List, length, slice_get, slice_index_or, refl, sym, ap, subst, arith}
-use Rattle.std.proofs.lemmas.Option.{slice_get-get_or}
+-- Instructions that are ready do what those of the code do.
+use Rattle.std.proofs.Common.{◌≡◌, ℕ, suc, ◌+◌, ◌-◌, ◌*◌, ◌/◌, ◌%◌, ◌^◌, ◌<◌, ◌≤◌, ◌∙◌, false, ◌||◌, not, nat_eq, nat_lt, if◌then◌else◌, Option, Some, None, List, length, slice_get, slice_index, refl, sym, ap, subst, arith}
 use Rattle.vt_riscv.specs.declared.places.TheConstants.{IMAGE}
 use Rattle.vt_riscv.specs.declared.instruction.Operation.{Operation}
 use Rattle.vt_riscv.specs.declared.instruction.Operation.TheVariants.{Bad}
-use Rattle.vt_riscv.specs.declared.ready.Ready.{Ready}
+use Rattle.vt_riscv.specs.declared.ready.Head.{Head}
 use Rattle.vt_riscv.specs.declared.code.Code.{Code}
 use Rattle.vt_riscv.specs.declared.machine.Machine.{Machine}
 use Rattle.vt_riscv.specs.declared.machine.Trap.TheVariants.{BadInstruction}
@@ -12,9 +11,9 @@ use Rattle.vt_riscv.specs.declared.machine.Stop.{Stop}
 use Rattle.vt_riscv.specs.declared.machine.Stop.TheVariants.{Called, Trapped}
 use Rattle.vt_riscv.specs.declared.sprint.Go.{Go}
 use Rattle.vt_riscv.specs.declared.sprint.Go.TheVariants as go
-use Rattle.vt_riscv.specs.Readiness.{place_at, instruction_of, IsFollowed, IsReady}
+use Rattle.vt_riscv.specs.Readiness.{place_at, head_at, instruction_at, IsFollowed, IsReady, AreReady}
 use Rattle.vt_riscv.specs.Steps.{Turn, goes_on, stops, behind, is_misaligned, fetch_of, exec_of, obeyed, step_of, run_of}
-use Rattle.vt_riscv.specs.Sprints.{at_index, seen, due}
+use Rattle.vt_riscv.specs.Sprints.{at_index, seen, due, IsAim}
 use Rattle.vt_riscv.proofs.RunLemmas.{run-on, run-stop}
 
 -- where an instruction may begin
@@ -28,86 +27,91 @@ not_below k = grind arith
 index_there : (k : ℕ) → (place_at k - IMAGE) / 2 ≡ k
 index_there k = omega arith
 
--- the machine fetches the instruction for which a ready one stands
-fetch_there : (code : Code) (k : ℕ) (r : Ready) → IsFollowed code.compressed code.instructions.items k r → fetch_of code (place_at k) ≡ Some (instruction_of k r)
-fetch_there code k r f =
-    (λ j. if not_below k j || aligned_there code (place_at k) f.aligned j then None else slice_get code.instructions.items (index_there k j))
-    ∙ f.there
-
--- what is ready at an index
-pub ready_here : (code : Code) (rs : List Ready) (k : ℕ) (none : Ready) → rs ≡ code.ready.items → k < length code.ready.items → IsReady code.compressed code.instructions.items k (slice_index_or rs k none)
-ready_here code rs k none same within =
-    subst (λ (xs : List Ready). IsReady code.compressed code.instructions.items k (slice_index_or xs k none)) (sym same)
-    (code.readied.each k (slice_index_or code.ready.items k none) (slice_get-get_or code.ready.items k none within))
-
--- the place behind a ready instruction
-pub place_behind : (k next : ℕ) → k ≤ next → next < 2 ^ 32 → (place_at k + 2 * (next - k)) % 2 ^ 64 ≡ place_at next
+-- the place behind one
+place_behind : (k next : ℕ) → k ≤ next → next < 2 ^ 32 → (place_at k + 2 * (next - k)) % 2 ^ 64 ≡ place_at next
 place_behind k next on few = omega (arith, on, few)
 
-module _ {N : ℕ} (code : Code) (k : ℕ) (r : Ready) (m : Machine N) where
-  -- a step does what a ready instruction does that isn't `Bad`
-  there : (t : Turn N) → (r.operation ≡ Bad → ⊥) → IsReady code.compressed code.instructions.items k r → t ≡ exec_of code (at_index m k) (instruction_of k r) r.operation → step_of code (at_index m k) ≡ t
-  there t good is does = ap (obeyed code (at_index m k)) (fetch_there code k r (is.followed good)) ∙ sym does
+-- those of a code
+pub are_ready : (code : Code) (heads : List Head) (immediates targets : List ℕ) → heads ≡ code.ready.heads.items → immediates ≡ code.ready.immediates.items → targets ≡ code.ready.targets.items
+    → AreReady code.compressed code.instructions.items heads immediates targets
+are_ready code heads immediates targets hs is ts =
+    subst (λ (x : List Head). AreReady code.compressed code.instructions.items x immediates targets) (sym hs)
+    (subst (λ (x : List ℕ). AreReady code.compressed code.instructions.items code.ready.heads.items x targets) (sym is)
+    (subst (λ (x : List ℕ). AreReady code.compressed code.instructions.items code.ready.heads.items code.ready.immediates.items x) (sym ts) code.readied))
+
+-- an instruction may begin where another leads to
+pub aim_there : (code : Code) (heads : List Head) (immediates targets : List ℕ) (k : ℕ) → AreReady code.compressed code.instructions.items heads immediates targets → k < length heads
+    → IsAim code heads (slice_index immediates k) (slice_index targets k) k
+aim_there code heads immediates targets k are within known = (are.aimed k within known, aligned_there code _ (are.each (slice_index targets k) known).aligned)
+
+module _ {N : ℕ} (code : Code) (heads : List Head) (immediate k : ℕ) (m : Machine N) where
+  -- the machine fetches the instruction
+  fetch_there : IsReady code.compressed code.instructions.items heads immediate k → ((head_at heads k).operation ≡ Bad → ⊥)
+      → fetch_of code (place_at (head_at heads k).place) ≡ Some (instruction_at heads immediate k)
+  fetch_there is good =
+      let p = (head_at heads k).place in
+      (λ j. if not_below p j || aligned_there code (place_at p) is.aligned j then None else slice_get code.instructions.items (index_there p j))
+      ∙ (is.followed good).there
+
+  -- a step does what the instruction does, if it isn't `Bad`
+  there : (t : Turn N) → ((head_at heads k).operation ≡ Bad → ⊥) → IsReady code.compressed code.instructions.items heads immediate k
+      → t ≡ exec_of code (at_index m heads k) (instruction_at heads immediate k) (head_at heads k).operation → step_of code (at_index m heads k) ≡ t
+  there t good is does = ap (obeyed code (at_index m heads k)) (fetch_there is good) ∙ sym does
 
   -- it isn't, where it goes on or calls
-  not_bad : (why : Option Stop) (n : Machine N) → (record { stop = why; machine = n }) ≡ exec_of code (at_index m k) (instruction_of k r) r.operation → (why ≡ Some (Trapped BadInstruction) → ⊥) → r.operation ≡ Bad → ⊥
+  not_bad : (why : Option Stop) (n : Machine N) → (record { stop = why; machine = n }) ≡ exec_of code (at_index m heads k) (instruction_at heads immediate k) (head_at heads k).operation
+      → (why ≡ Some (Trapped BadInstruction) → ⊥) → (head_at heads k).operation ≡ Bad → ⊥
   not_bad why n does other bad =
-      other (ap (λ (t : Turn N). t.stop) does ∙ ap (λ (o : Operation). (exec_of code (at_index m k) (instruction_of k r) o).stop) bad)
+      other (ap (λ (t : Turn N). t.stop) does ∙ ap (λ (o : Operation). (exec_of code (at_index m heads k) (instruction_at heads immediate k) o).stop) bad)
 
-  goes : (n : Machine N) → IsReady code.compressed code.instructions.items k r → goes_on n ≡ exec_of code (at_index m k) (instruction_of k r) r.operation → step_of code (at_index m k) ≡ goes_on n
+  goes : (n : Machine N) → IsReady code.compressed code.instructions.items heads immediate k
+      → goes_on n ≡ exec_of code (at_index m heads k) (instruction_at heads immediate k) (head_at heads k).operation → step_of code (at_index m heads k) ≡ goes_on n
   goes n is does = there (goes_on n) (not_bad None n does (λ e. absurd (let no : None ≡ Some (Trapped BadInstruction) = e in cc))) is does
 
-  calls : (n : Machine N) → IsReady code.compressed code.instructions.items k r → stops Called n ≡ exec_of code (at_index m k) (instruction_of k r) r.operation → step_of code (at_index m k) ≡ stops Called n
+  calls : (n : Machine N) → IsReady code.compressed code.instructions.items heads immediate k
+      → stops Called n ≡ exec_of code (at_index m heads k) (instruction_at heads immediate k) (head_at heads k).operation → step_of code (at_index m heads k) ≡ stops Called n
   calls n is does = there (stops Called n) (not_bad (Some Called) n does (λ e. absurd (let no : Some Called ≡ Some (Trapped BadInstruction) = e in cc))) is does
 
-  -- where it goes on behind itself, there is one
-  pub followed_here : (n : Machine N) (g : Go) → IsReady code.compressed code.instructions.items k r
-      → seen n k r g ≡ due m (exec_of code (at_index m k) (instruction_of k r) r.operation) g → g ≡ go.Next → IsFollowed code.compressed code.instructions.items k r
-  followed_here n g is done next =
-      let turn = exec_of code (at_index m k) (instruction_of k r) r.operation in
-      let after = record n { place = behind (at_index n k) (instruction_of k r) } in
-      let does : goes_on after ≡ turn = subst (λ (h : Go). seen n k r h ≡ due m turn h) next done in
-      is.followed (not_bad None after does (λ e. absurd (let no : None ≡ Some (Trapped BadInstruction) = e in cc)))
-
-  -- a run goes on behind the instruction
-  pub run-next : (left : ℕ) (n : Machine N) (g : Go) → 0 < left → IsReady code.compressed code.instructions.items k r
-      → seen n k r g ≡ due m (exec_of code (at_index m k) (instruction_of k r) r.operation) g → g ≡ go.Next
-      → run_of code left (at_index m k) ≡ run_of code (left - 1) (at_index n r.next)
-  run-next left n g some is done next =
+  -- a run goes on after it
+  goes_run : (left : ℕ) (n : Machine N) → 0 < left → IsReady code.compressed code.instructions.items heads immediate k
+      → goes_on n ≡ exec_of code (at_index m heads k) (instruction_at heads immediate k) (head_at heads k).operation → run_of code left (at_index m heads k) ≡ run_of code (left - 1) n
+  goes_run left n some is does =
       let more : left ≡ suc (left - 1) = omega (arith, some) in
-      let turn = exec_of code (at_index m k) (instruction_of k r) r.operation in
-      let does : goes_on (record n { place = behind (at_index n k) (instruction_of k r) }) ≡ turn = subst (λ (h : Go). seen n k r h ≡ due m turn h) next done in
-      let step = goes (record n { place = behind (at_index n k) (instruction_of k r) }) is does in
-      let f = followed_here n g is done next in
-      run-on code left (left - 1) (at_index m k) (record n { place = behind (at_index n k) (instruction_of k r) }) None more (sym (ap (λ (t : Turn N). t.stop) step)) (sym (ap (λ (t : Turn N). t.machine) step)) refl
-      ∙ ap (λ (p : ℕ). run_of code (left - 1) (record n { place = p })) (place_behind k r.next f.behind f.small)
+      let step = goes n is does in
+      run-on code left (left - 1) (at_index m heads k) n None more (sym (ap (λ (t : Turn N). t.stop) step)) (sym (ap (λ (t : Turn N). t.machine) step)) refl
 
-  -- or at another place
-  pub run-to : (left place : ℕ) (n : Machine N) (g : Go) → 0 < left → IsReady code.compressed code.instructions.items k r
-      → seen n k r g ≡ due m (exec_of code (at_index m k) (instruction_of k r) r.operation) g → g ≡ go.To place
-      → run_of code left (at_index m k) ≡ run_of code (left - 1) (record n { place = place })
-  run-to left place n g some is done next =
-      let more : left ≡ suc (left - 1) = omega (arith, some) in
-      let turn = exec_of code (at_index m k) (instruction_of k r) r.operation in
-      let does : goes_on (record n { place = place }) ≡ turn = subst (λ (h : Go). seen n k r h ≡ due m turn h) next done in
-      let step = goes (record n { place = place }) is does in
-      run-on code left (left - 1) (at_index m k) (record n { place = place }) None more (sym (ap (λ (t : Turn N). t.stop) step)) (sym (ap (λ (t : Turn N). t.machine) step)) refl
+  module _ (n : Machine N) (g : Go) (is : IsReady code.compressed code.instructions.items heads immediate k)
+      (done : seen n heads immediate k g ≡ due m (exec_of code (at_index m heads k) (instruction_at heads immediate k) (head_at heads k).operation) g) where
+    does_as : (was : Go) → g ≡ was → seen n heads immediate k was ≡ due m (exec_of code (at_index m heads k) (instruction_at heads immediate k) (head_at heads k).operation) was
+    does_as was same = subst (λ (h : Go). seen n heads immediate k h ≡ due m (exec_of code (at_index m heads k) (instruction_at heads immediate k) (head_at heads k).operation) h) same done
 
-  -- it stops at a call
-  pub run-call : (left : ℕ) (n : Machine N) (g : Go) → 0 < left → IsReady code.compressed code.instructions.items k r
-      → seen n k r g ≡ due m (exec_of code (at_index m k) (instruction_of k r) r.operation) g → g ≡ go.Called
-      → run_of code left (at_index m k) ≡ record { outcome = record { stop = Called; left = left - 1 }; machine = at_index n k }
-  run-call left n g some is done next =
-      let more : left ≡ suc (left - 1) = omega (arith, some) in
-      let turn = exec_of code (at_index m k) (instruction_of k r) r.operation in
-      let does : stops Called (at_index n k) ≡ turn = subst (λ (h : Go). seen n k r h ≡ due m turn h) next done in
-      let step = calls (at_index n k) is does in
-      run-stop code left (left - 1) (at_index m k) (at_index n k) (Some Called) Called more (sym (ap (λ (t : Turn N). t.stop) step)) (sym (ap (λ (t : Turn N). t.machine) step)) refl
+    -- where it goes on behind itself, there is one
+    pub followed_here : g ≡ go.Next → IsFollowed code.instructions.items heads immediate k
+    followed_here next =
+        let after = record n { place = behind (at_index n heads k) (instruction_at heads immediate k) } in
+        is.followed (not_bad None after (does_as go.Next next) (λ e. absurd (let no : None ≡ Some (Trapped BadInstruction) = e in cc)))
 
-  -- nothing was done
-  pub run-same : (left : ℕ) (n : Machine N) (g : Go) → seen n k r g ≡ due m (exec_of code (at_index m k) (instruction_of k r) r.operation) g → g ≡ go.Not
-      → run_of code left (at_index m k) ≡ run_of code left (at_index n k)
-  run-same left n g done same =
-      let turn = exec_of code (at_index m k) (instruction_of k r) r.operation in
-      let kept : goes_on n ≡ goes_on m = subst (λ (h : Go). seen n k r h ≡ due m turn h) same done in
-      ap (λ (t : Turn N). run_of code left (at_index t.machine k)) (sym kept)
+    pub run-next : (left : ℕ) → 0 < left → g ≡ go.Next → run_of code left (at_index m heads k) ≡ run_of code (left - 1) (at_index n heads (k + 1))
+    run-next left some next =
+        let f = followed_here next in
+        goes_run left (record n { place = behind (at_index n heads k) (instruction_at heads immediate k) }) some is (does_as go.Next next)
+        ∙ ap (λ (p : ℕ). run_of code (left - 1) (record n { place = p })) (place_behind (head_at heads k).place (head_at heads (k + 1)).place f.behind f.few)
+
+    -- or at another one
+    pub run-at : (left to : ℕ) → 0 < left → g ≡ go.At to → run_of code left (at_index m heads k) ≡ run_of code (left - 1) (at_index n heads to)
+    run-at left to some next = goes_run left (at_index n heads to) some is (does_as (go.At to) next)
+
+    -- or at another place
+    pub run-to : (left place : ℕ) → 0 < left → g ≡ go.To place → run_of code left (at_index m heads k) ≡ run_of code (left - 1) (record n { place = place })
+    run-to left place some next = goes_run left (record n { place = place }) some is (does_as (go.To place) next)
+
+    -- it stops at a call
+    pub run-call : (left : ℕ) → 0 < left → g ≡ go.Called → run_of code left (at_index m heads k) ≡ record { outcome = record { stop = Called; left = left - 1 }; machine = at_index n heads k }
+    run-call left some next =
+        let more : left ≡ suc (left - 1) = omega (arith, some) in
+        let step = calls (at_index n heads k) is (does_as go.Called next) in
+        run-stop code left (left - 1) (at_index m heads k) (at_index n heads k) (Some Called) Called more (sym (ap (λ (t : Turn N). t.stop) step)) (sym (ap (λ (t : Turn N). t.machine) step)) refl
+
+    -- nothing was done
+    pub run-same : (left : ℕ) → g ≡ go.Not → run_of code left (at_index m heads k) ≡ run_of code left (at_index n heads k)
+    run-same left same = ap (λ (t : Turn N). run_of code left (at_index t.machine heads k)) (sym (does_as go.Not same))

@@ -16,15 +16,15 @@ use std::vec::Vec;
 pub struct Code {
     /// The instruction at each even place from `IMAGE` on.
     pub instructions: Vec<Instruction>,
-    // The first of these once more, as many steps in a row want them.
-    pub(crate) ready: Vec<Ready>,
+    // Some of these once more, as many steps in a row want them.
+    pub(crate) ready: Ready,
     /// The bytes from `IMAGE` on: the code, then constants.
     pub image: Vec<u8>,
     /// The bytes from `DATA` on.
     pub input: Vec<u8>,
     /// Whether instructions may be compressed. They may lie at any even place then, and else at multiples of 4.
     pub compressed: bool,
-    ghost readied: { AreReady compressed instructions.items ready.items },
+    ghost readied: { AreReady compressed instructions.items ready.heads.items ready.immediates.items ready.targets.items },
 }
 
 impl Code {

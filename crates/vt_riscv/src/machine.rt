@@ -222,7 +222,7 @@ impl<const N: usize> Machine<N> {
     }
 
     // An instruction.
-    #[inline]
+    #[inline(never)]
     fn exec(&mut self, code: &Code, i: Instruction) -> Option<Stop>
         ensures stop { result ≡ (exec_of code.now self.old i i.operation).stop }
         ensures machine { self.new ≡ (exec_of code.now self.old i i.operation).machine }
@@ -320,6 +320,7 @@ impl<const N: usize> Machine<N> {
 
     /// Makes at most `fuel` steps, each of one instruction, and stops earlier at a call, at the end, or where an instruction can't be
     /// done. At `RETURN` it has ended, even if no step is left.
+    #[inline(always)]
     pub fn run(&mut self, code: &Code, fuel: u64) -> Outcome
         ensures outcome { result ≡ (run_of code.now fuel self.old).outcome }
         ensures machine { self.new ≡ (run_of code.now fuel self.old).machine }
@@ -350,6 +351,7 @@ impl<const N: usize> Machine<N> {
     }
 
     /// Answers the call at which the machine stopped: puts the value into register a0 (x10), and goes on behind the ECALL.
+    #[inline(always)]
     pub fn answer(&mut self, value: u64)
         ensures { self.new ≡ answered self.old value }
     {

@@ -1,9 +1,10 @@
 //! Many steps in a row, in which the machine's place is the index of an instruction.
 
-ghost use Rattle.std.specs.Prelude.{◌≡◌, ◌<◌, ◌≤◌, length, IfSome};
-ghost use Rattle.vt_riscv.specs.Readiness.{place_at, instruction_of, IsSmall};
-ghost use Rattle.vt_riscv.specs.Steps.{is_misaligned, register_of, with_register, put_in, branched, jumped, loaded, loaded_signed, stored_at, exec_of, run_of};
-ghost use Rattle.vt_riscv.specs.Sprints.{at_index, seen, due, rest_of};
+ghost use Rattle.std.specs.Prelude.{◌≡◌, ◌+◌, ◌-◌, ◌%◌, ◌<◌, ◌≤◌, length, slice_index};
+ghost use Rattle.vt_riscv.specs.Arithmetic.{sum};
+ghost use Rattle.vt_riscv.specs.Readiness.{place_at, head_at, instruction_at, IsSmall};
+ghost use Rattle.vt_riscv.specs.Steps.{register_of, with_register, behind, put_in, branched, jumped, loaded, loaded_signed, stored_at, exec_of, run_of};
+ghost use Rattle.vt_riscv.specs.Sprints.{at_index, seen, due, rest_of, IsAim};
 
 use crate::arithmetic::{
     difference_of_words, left_of_word, less_signed, product_of_words, quotient, rest,
@@ -11,20 +12,29 @@ use crate::arithmetic::{
 };
 use crate::machine::is_misaligned;
 use crate::memory::{Size, extended, store, width};
-use crate::ready::Ready;
-use crate::{Code, IMAGE, Machine, Operation, STACK, STATE};
+use crate::ready::{Head, index_of, place_at, place_of};
+use crate::{Code, Machine, Operation, STACK, STATE};
 
 /// How the machine goes on after a ready instruction.
 #[derive(Clone, Copy)]
 pub(crate) enum Go {
     /// With the one behind it.
     Next,
+    /// With another one that is ready, by its index.
+    At(u32),
     /// At a place.
     To(u64),
     /// The instruction is a call.
     Called,
     /// The instruction wasn't done. It has to be looked at more closely.
     Not,
+}
+
+/// An instruction that is ready: its index and its immediate.
+#[derive(Clone, Copy)]
+pub(crate) struct Here {
+    pub at: usize,
+    pub immediate: u64,
 }
 
 /// How a sprint ended.
@@ -34,31 +44,6 @@ pub(crate) struct Sprint {
     pub left: u64,
     /// Whether the last step was a call.
     pub called: bool,
-}
-
-// The place of the instruction of an index.
-#[inline(always)]
-fn place_at(at: u32) -> u64
-    ensures { result ≡ place_at at }
-{
-    IMAGE + 2 * u64::from(at)
-}
-
-// The index of the ready instruction at a place, if there is one.
-#[inline(always)]
-fn index_of(code: &Code, place: u64) -> Option<u32>
-    ensures within { IfSome result (λ n. n < length code.now.ready.items) }
-    ensures place { IfSome result (λ n. place_at n ≡ place) }
-{
-    if place < IMAGE || is_misaligned(code, place) {
-        return None;
-    }
-    let at = (place - IMAGE) / 2;
-    if at < code.ready.len() as u64 {
-        Some(at as u32)
-    } else {
-        None
-    }
 }
 
 impl<const N: usize> Machine<N> {
@@ -81,195 +66,331 @@ impl<const N: usize> Machine<N> {
         self.registers[0] = 0;
     }
 
-    // The following are those of `exec` for a ready instruction at an index.
+    // Puts the place behind an instruction into its register.
     #[inline(always)]
-    fn put_ready(&mut self, k: u32, i: &Ready, v: u64) -> Go
-        requires { IsSmall i.now }
-        ensures { seen self.new k i.now result ≡ due self.old (put_in (at_index self.old k) (instruction_of k i.now) v) result }
+    fn link(&mut self, heads: &[Head], here: Here)
+        requires within { here.at < length heads.now }
+        requires small { IsSmall (head_at heads.now here.at) }
+        ensures { self.new ≡ with_register self.old (head_at heads.now here.at).destination (behind (at_index self.old heads.now here.at) (instruction_at heads.now here.immediate here.at)) }
     {
-        self.write(i.destination, v);
+        let place = heads[here.at].place;
+        let length = match heads.get(here.at + 1) {
+            Some(next) => next.place.saturating_sub(place),
+            None => 0,
+        };
+        let behind = place_at(place).wrapping_add(2 * u64::from(length));
+        self.write(heads[here.at].destination, behind);
+    }
+
+    // The following are those of `exec` for an instruction that is ready.
+    #[inline(always)]
+    fn put_ready(&mut self, heads: &[Head], here: Here, v: u64) -> Go
+        requires within { here.at < length heads.now }
+        requires small { IsSmall (head_at heads.now here.at) }
+        ensures { seen self.new heads.now here.immediate here.at result ≡ due self.old (put_in (at_index self.old heads.now here.at) (instruction_at heads.now here.immediate here.at) v) result }
+    {
+        self.write(heads[here.at].destination, v);
         Go::Next
     }
 
     #[inline(always)]
-    fn load_ready(&mut self, code: &Code, k: u32, i: &Ready, at: u64, size: Size) -> Go
-        requires { IsSmall i.now }
-        ensures { seen self.new k i.now result ≡ due self.old (loaded code.now (at_index self.old k) (instruction_of k i.now) size at) result }
+    fn load_ready(&mut self, code: &Code, heads: &[Head], here: Here, x: u64, size: Size) -> Go
+        requires within { here.at < length heads.now }
+        requires small { IsSmall (head_at heads.now here.at) }
+        ensures { seen self.new heads.now here.immediate here.at result ≡ due self.old (loaded code.now (at_index self.old heads.now here.at) (instruction_at heads.now here.immediate here.at) size (sum x here.immediate)) result }
     {
-        match self.load_from(code, size, at) {
-            Some(v) => self.put_ready(k, i, v),
+        match self.load_from(code, size, x.wrapping_add(here.immediate)) {
+            Some(v) => self.put_ready(heads, here, v),
             None => Go::Not,
         }
     }
 
     #[inline(always)]
-    fn load_signed_ready(&mut self, code: &Code, k: u32, i: &Ready, at: u64, size: Size) -> Go
-        requires { IsSmall i.now }
-        ensures { seen self.new k i.now result ≡ due self.old (loaded_signed code.now (at_index self.old k) (instruction_of k i.now) size at) result }
+    fn load_signed_ready(
+        &mut self,
+        code: &Code,
+        heads: &[Head],
+        here: Here,
+        x: u64,
+        size: Size,
+    ) -> Go
+        requires within { here.at < length heads.now }
+        requires small { IsSmall (head_at heads.now here.at) }
+        ensures { seen self.new heads.now here.immediate here.at result ≡ due self.old (loaded_signed code.now (at_index self.old heads.now here.at) (instruction_at heads.now here.immediate here.at) size (sum x here.immediate)) result }
     {
-        match self.load_from(code, size, at) {
-            Some(v) => self.put_ready(k, i, extended(size, v)),
+        match self.load_from(code, size, x.wrapping_add(here.immediate)) {
+            Some(v) => self.put_ready(heads, here, extended(size, v)),
             None => Go::Not,
         }
     }
 
     #[inline(always)]
-    fn store_ready(&mut self, k: u32, i: &Ready, at: u64, v: u64, size: Size) -> Go
-        ensures { seen self.new k i.now result ≡ due self.old (stored_at (at_index self.old k) (instruction_of k i.now) size at v) result }
+    fn store_ready(&mut self, heads: &[Head], here: Here, x: u64, v: u64, size: Size) -> Go
+        requires within { here.at < length heads.now }
+        ensures { seen self.new heads.now here.immediate here.at result ≡ due self.old (stored_at (at_index self.old heads.now here.at) (instruction_at heads.now here.immediate here.at) size (sum x here.immediate) v) result }
     {
-        if at >= STATE {
-            if at - STATE > N as u64 || width(size) > N as u64 - (at - STATE) {
+        let place = x.wrapping_add(here.immediate);
+        if place >= STATE {
+            if place - STATE > N as u64 || width(size) > N as u64 - (place - STATE) {
                 return Go::Not;
             }
-            store(&mut self.state, (at - STATE) as usize, size, v);
+            store(&mut self.state, (place - STATE) as usize, size, v);
             return Go::Next;
         }
         let base = STATE - STACK as u64;
-        if at < base || width(size) > STATE - at {
+        if place < base || width(size) > STATE - place {
             return Go::Not;
         }
-        store(&mut self.stack, (at - base) as usize, size, v);
+        store(&mut self.stack, (place - base) as usize, size, v);
         Go::Next
     }
 
     #[inline(always)]
-    fn branch_ready(&mut self, code: &Code, k: u32, i: &Ready, taken: bool) -> Go
-        ensures { seen self.new k i.now result ≡ due self.old (branched code.now (at_index self.old k) (instruction_of k i.now) taken) result }
+    fn branch_ready(
+        &mut self,
+        code: &Code,
+        heads: &[Head],
+        targets: &[u32],
+        here: Here,
+        taken: bool,
+    ) -> Go
+        requires within { here.at < length heads.now }
+        requires targets { here.at < length targets.now }
+        requires aim { IsAim code.now heads.now here.immediate (slice_index targets.now here.at) here.at }
+        ensures { seen self.new heads.now here.immediate here.at result ≡ due self.old (branched code.now (at_index self.old heads.now here.at) (instruction_at heads.now here.immediate here.at) taken) result }
     {
         if !taken {
             return Go::Next;
         }
-        let to = place_at(k).wrapping_add(i.immediate);
-        if is_misaligned(code, to) {
+        let target = targets[here.at];
+        if target as usize >= heads.len() {
             return Go::Not;
         }
-        Go::To(to)
+        Go::At(target)
     }
 
     #[inline(always)]
-    fn jump_ready(&mut self, code: &Code, k: u32, i: &Ready, to: u64) -> Go
-        requires { IsSmall i.now }
-        ensures { seen self.new k i.now result ≡ due self.old (jumped code.now (at_index self.old k) (instruction_of k i.now) to) result }
+    fn link_ready(&mut self, code: &Code, heads: &[Head], targets: &[u32], here: Here) -> Go
+        requires within { here.at < length heads.now }
+        requires small { IsSmall (head_at heads.now here.at) }
+        requires targets { here.at < length targets.now }
+        requires aim { IsAim code.now heads.now here.immediate (slice_index targets.now here.at) here.at }
+        ensures { seen self.new heads.now here.immediate here.at result ≡ due self.old (jumped code.now (at_index self.old heads.now here.at) (instruction_at heads.now here.immediate here.at) (sum (place_at (head_at heads.now here.at).place) here.immediate)) result }
     {
+        let target = targets[here.at];
+        if target as usize >= heads.len() {
+            return Go::Not;
+        }
+        self.link(heads, here);
+        Go::At(target)
+    }
+
+    #[inline(always)]
+    fn jump_ready(&mut self, code: &Code, heads: &[Head], here: Here, x: u64) -> Go
+        requires within { here.at < length heads.now }
+        requires small { IsSmall (head_at heads.now here.at) }
+        ensures { seen self.new heads.now here.immediate here.at result ≡ due self.old (jumped code.now (at_index self.old heads.now here.at) (instruction_at heads.now here.immediate here.at) (sum x here.immediate - sum x here.immediate % 2)) result }
+    {
+        let place = x.wrapping_add(here.immediate);
+        let to = place - place % 2;
         if is_misaligned(code, to) {
             return Go::Not;
         }
-        let length = 2 * u64::from(i.next.saturating_sub(k));
-        self.write(i.destination, place_at(k).wrapping_add(length));
+        self.link(heads, here);
         Go::To(to)
     }
 
     // An instruction, if it is one of the usual ones and can be done.
     #[inline(always)]
-    fn exec_ready(&mut self, code: &Code, k: u32, i: &Ready) -> Go
-        requires { IsSmall i.now }
-        ensures { seen self.new k i.now result ≡ due self.old (exec_of code.now (at_index self.old k) (instruction_of k i.now) i.now.operation) result }
+    fn exec_ready(&mut self, code: &Code, heads: &[Head], targets: &[u32], here: Here) -> Go
+        requires within { here.at < length heads.now }
+        requires small { IsSmall (head_at heads.now here.at) }
+        requires targets { here.at < length targets.now }
+        requires aim { IsAim code.now heads.now here.immediate (slice_index targets.now here.at) here.at }
+        ensures { seen self.new heads.now here.immediate here.at result ≡ due self.old (exec_of code.now (at_index self.old heads.now here.at) (instruction_at heads.now here.immediate here.at) (head_at heads.now here.at).operation) result }
     {
-        let x = self.read(i.first);
-        let at = x.wrapping_add(i.immediate);
-        match i.operation {
-            Operation::Lui => self.put_ready(k, i, i.immediate),
-            Operation::Auipc => self.put_ready(k, i, place_at(k).wrapping_add(i.immediate)),
-            Operation::Jal => self.jump_ready(code, k, i, place_at(k).wrapping_add(i.immediate)),
-            Operation::Jalr => self.jump_ready(code, k, i, at - at % 2),
-            Operation::Beq => self.branch_ready(code, k, i, x == self.read(i.second)),
-            Operation::Bne => self.branch_ready(code, k, i, x != self.read(i.second)),
-            Operation::Blt => self.branch_ready(code, k, i, less_signed(x, self.read(i.second))),
-            Operation::Bge => self.branch_ready(code, k, i, !less_signed(x, self.read(i.second))),
-            Operation::Bltu => self.branch_ready(code, k, i, x < self.read(i.second)),
-            Operation::Bgeu => self.branch_ready(code, k, i, x >= self.read(i.second)),
-            Operation::Lb => self.load_signed_ready(code, k, i, at, Size::Byte),
-            Operation::Lh => self.load_signed_ready(code, k, i, at, Size::Half),
-            Operation::Lw => self.load_signed_ready(code, k, i, at, Size::Word),
-            Operation::Ld => self.load_ready(code, k, i, at, Size::Double),
-            Operation::Lbu => self.load_ready(code, k, i, at, Size::Byte),
-            Operation::Lhu => self.load_ready(code, k, i, at, Size::Half),
-            Operation::Lwu => self.load_ready(code, k, i, at, Size::Word),
-            Operation::Sb => self.store_ready(k, i, at, self.read(i.second), Size::Byte),
-            Operation::Sh => self.store_ready(k, i, at, self.read(i.second), Size::Half),
-            Operation::Sw => self.store_ready(k, i, at, self.read(i.second), Size::Word),
-            Operation::Sd => self.store_ready(k, i, at, self.read(i.second), Size::Double),
-            Operation::Addi => self.put_ready(k, i, at),
-            Operation::Slti => self.put_ready(k, i, u64::from(less_signed(x, i.immediate))),
-            Operation::Sltiu => self.put_ready(k, i, u64::from(x < i.immediate)),
-            Operation::Xori => self.put_ready(k, i, x ^ i.immediate),
-            Operation::Ori => self.put_ready(k, i, x | i.immediate),
-            Operation::Andi => self.put_ready(k, i, x & i.immediate),
-            Operation::Slli => self.put_ready(k, i, x << (i.immediate % 64)),
-            Operation::Srli => self.put_ready(k, i, x >> (i.immediate % 64)),
-            Operation::Srai => self.put_ready(k, i, right_signed(x, i.immediate)),
-            Operation::Add => self.put_ready(k, i, x.wrapping_add(self.read(i.second))),
-            Operation::Sub => self.put_ready(k, i, x.wrapping_sub(self.read(i.second))),
-            Operation::Sll => self.put_ready(k, i, x << (self.read(i.second) % 64)),
-            Operation::Slt => self.put_ready(k, i, u64::from(less_signed(x, self.read(i.second)))),
-            Operation::Sltu => self.put_ready(k, i, u64::from(x < self.read(i.second))),
-            Operation::Xor => self.put_ready(k, i, x ^ self.read(i.second)),
-            Operation::Srl => self.put_ready(k, i, x >> (self.read(i.second) % 64)),
-            Operation::Or => self.put_ready(k, i, x | self.read(i.second)),
-            Operation::And => self.put_ready(k, i, x & self.read(i.second)),
-            Operation::Addiw => self.put_ready(k, i, sum_of_words(x, i.immediate)),
-            Operation::Slliw => self.put_ready(k, i, left_of_word(x, i.immediate)),
-            Operation::Srliw => self.put_ready(k, i, right_of_word(x, i.immediate)),
-            Operation::Addw => self.put_ready(k, i, sum_of_words(x, self.read(i.second))),
-            Operation::Subw => self.put_ready(k, i, difference_of_words(x, self.read(i.second))),
+        let head = &heads[here.at];
+        let x = self.read(head.first);
+        let number = here.immediate;
+        match head.operation {
+            Operation::Lui => self.put_ready(heads, here, number),
+            Operation::Auipc => self.put_ready(
+                heads,
+                here,
+                place_at(head.place).wrapping_add(number),
+            ),
+            Operation::Jal => self.link_ready(code, heads, targets, here),
+            Operation::Jalr => self.jump_ready(code, heads, here, x),
+            Operation::Beq => self.branch_ready(
+                code,
+                heads,
+                targets,
+                here,
+                x == self.read(head.second),
+            ),
+            Operation::Bne => self.branch_ready(
+                code,
+                heads,
+                targets,
+                here,
+                x != self.read(head.second),
+            ),
+            Operation::Blt => self.branch_ready(
+                code,
+                heads,
+                targets,
+                here,
+                less_signed(x, self.read(head.second)),
+            ),
+            Operation::Bge => self.branch_ready(
+                code,
+                heads,
+                targets,
+                here,
+                !less_signed(x, self.read(head.second)),
+            ),
+            Operation::Bltu => self.branch_ready(
+                code,
+                heads,
+                targets,
+                here,
+                x < self.read(head.second),
+            ),
+            Operation::Bgeu => self.branch_ready(
+                code,
+                heads,
+                targets,
+                here,
+                x >= self.read(head.second),
+            ),
+            Operation::Lb => self.load_signed_ready(code, heads, here, x, Size::Byte),
+            Operation::Lh => self.load_signed_ready(code, heads, here, x, Size::Half),
+            Operation::Lw => self.load_signed_ready(code, heads, here, x, Size::Word),
+            Operation::Ld => self.load_ready(code, heads, here, x, Size::Double),
+            Operation::Lbu => self.load_ready(code, heads, here, x, Size::Byte),
+            Operation::Lhu => self.load_ready(code, heads, here, x, Size::Half),
+            Operation::Lwu => self.load_ready(code, heads, here, x, Size::Word),
+            Operation::Sb => self.store_ready(heads, here, x, self.read(head.second), Size::Byte),
+            Operation::Sh => self.store_ready(heads, here, x, self.read(head.second), Size::Half),
+            Operation::Sw => self.store_ready(heads, here, x, self.read(head.second), Size::Word),
+            Operation::Sd => self.store_ready(heads, here, x, self.read(head.second), Size::Double),
+            Operation::Addi => self.put_ready(heads, here, x.wrapping_add(number)),
+            Operation::Slti => self.put_ready(heads, here, u64::from(less_signed(x, number))),
+            Operation::Sltiu => self.put_ready(heads, here, u64::from(x < number)),
+            Operation::Xori => self.put_ready(heads, here, x ^ number),
+            Operation::Ori => self.put_ready(heads, here, x | number),
+            Operation::Andi => self.put_ready(heads, here, x & number),
+            Operation::Slli => self.put_ready(heads, here, x << (number % 64)),
+            Operation::Srli => self.put_ready(heads, here, x >> (number % 64)),
+            Operation::Srai => self.put_ready(heads, here, right_signed(x, number)),
+            Operation::Add => self.put_ready(heads, here, x.wrapping_add(self.read(head.second))),
+            Operation::Sub => self.put_ready(heads, here, x.wrapping_sub(self.read(head.second))),
+            Operation::Sll => self.put_ready(heads, here, x << (self.read(head.second) % 64)),
+            Operation::Slt => self.put_ready(
+                heads,
+                here,
+                u64::from(less_signed(x, self.read(head.second))),
+            ),
+            Operation::Sltu => self.put_ready(heads, here, u64::from(x < self.read(head.second))),
+            Operation::Xor => self.put_ready(heads, here, x ^ self.read(head.second)),
+            Operation::Srl => self.put_ready(heads, here, x >> (self.read(head.second) % 64)),
+            Operation::Or => self.put_ready(heads, here, x | self.read(head.second)),
+            Operation::And => self.put_ready(heads, here, x & self.read(head.second)),
+            Operation::Addiw => self.put_ready(heads, here, sum_of_words(x, number)),
+            Operation::Slliw => self.put_ready(heads, here, left_of_word(x, number)),
+            Operation::Srliw => self.put_ready(heads, here, right_of_word(x, number)),
+            Operation::Addw => self.put_ready(heads, here, sum_of_words(x, self.read(head.second))),
+            Operation::Subw => self.put_ready(
+                heads,
+                here,
+                difference_of_words(x, self.read(head.second)),
+            ),
             Operation::Ecall => Go::Called,
-            Operation::Mul => self.put_ready(k, i, x.wrapping_mul(self.read(i.second))),
-            Operation::Mulw => self.put_ready(k, i, product_of_words(x, self.read(i.second))),
-            Operation::Divu => self.put_ready(k, i, quotient(x, self.read(i.second))),
-            Operation::Remu => self.put_ready(k, i, rest(x, self.read(i.second))),
+            Operation::Mul => self.put_ready(heads, here, x.wrapping_mul(self.read(head.second))),
+            Operation::Mulw => self.put_ready(
+                heads,
+                here,
+                product_of_words(x, self.read(head.second)),
+            ),
+            Operation::Divu => self.put_ready(heads, here, quotient(x, self.read(head.second))),
+            Operation::Remu => self.put_ready(heads, here, rest(x, self.read(head.second))),
             _ => Go::Not,
         }
     }
 
-    /// Makes steps up to a call, up to an instruction that has to be looked at more closely, or until none is left.
+    /// Makes steps up to a call, up to an instruction that has to be looked at more closely, or until few are left.
+    #[inline(always)]
     pub(crate) fn sprint(&mut self, code: &Code, fuel: u64) -> Sprint
         ensures run { run_of code.now fuel self.old ≡ rest_of code.now self.new result.left result.called }
         ensures left { result.left ≤ fuel }
     {
-        let Some(first) = index_of(code, self.place) else {
+        let heads = code.ready.heads.as_slice();
+        let immediates = code.ready.immediates.as_slice();
+        let targets = code.ready.targets.as_slice();
+        let starts = code.ready.starts.as_slice();
+        let Some(first) = index_of(heads, starts, self.place) else {
             return Sprint {
                 left: fuel,
                 called: false,
             };
         };
-        let ready = code.ready.as_slice();
-        let mut at = first;
-        let mut left = fuel;
-        'steps: while left > 0 {
-            let i = &ready[at as usize];
-            match self.exec_ready(code, at, i) {
-                Go::Next => at = i.next,
+        // Without a jump there are at most so many steps up to the end of the code. Those left beyond them are to spare.
+        let mut at = first as usize;
+        let most = (heads.len() - at) as u64;
+        if fuel < most {
+            return Sprint {
+                left: fuel,
+                called: false,
+            };
+        }
+        let mut spare = fuel - most;
+        'steps: loop {
+            let left = spare + (heads.len() - at) as u64;
+            let here = Here {
+                at,
+                immediate: immediates[at],
+            };
+            let to = match self.exec_ready(code, heads, targets, here) {
+                Go::Next => {
+                    at += 1;
+                    continue 'steps;
+                }
+                Go::At(to) => to as usize,
                 Go::To(place) => {
-                    let Some(to) = index_of(code, place) else {
+                    let Some(to) = index_of(heads, starts, place) else {
                         self.place = place;
                         return Sprint {
                             left: left - 1,
                             called: false,
                         };
                     };
-                    at = to;
+                    to as usize
                 }
                 Go::Called => {
-                    self.place = place_at(at);
+                    self.place = place_of(heads, at);
                     return Sprint {
                         left: left - 1,
                         called: true,
                     };
                 }
                 Go::Not => {
-                    self.place = place_at(at);
+                    self.place = place_of(heads, at);
                     return Sprint {
                         left,
                         called: false,
                     };
                 }
+            };
+            let most = heads.len().saturating_sub(to) as u64;
+            if most == 0 || left - 1 < most {
+                self.place = place_of(heads, to);
+                return Sprint {
+                    left: left - 1,
+                    called: false,
+                };
             }
-            left -= 1;
-        }
-        self.place = place_at(at);
-        Sprint {
-            left: 0,
-            called: false,
+            spare = left - 1 - most;
+            at = to;
         }
     }
 }

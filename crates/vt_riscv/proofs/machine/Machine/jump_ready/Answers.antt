@@ -1,0 +1,17 @@
+use Rattle.std.proofs.Common.{rules, ◌≡◌, ◌-◌, ◌%◌, ◌∙◌, false, if◌then◌else◌, sym}
+use Rattle.vt_riscv.specs.declared.machine.Trap.TheVariants.{BadJump}
+use Rattle.vt_riscv.specs.Arithmetic.{sum}
+use Rattle.vt_riscv.specs.Readiness.{head_at, instruction_at}
+use Rattle.vt_riscv.specs.Steps.{goes_on, trapped, is_misaligned, with_register, behind}
+use Rattle.vt_riscv.specs.Sprints.{at_index}
+use Rattle.vt_riscv.proofs.machine.Machine.jump_ready.Goals as goal
+
+pub returns : goal.returns
+returns g c =
+    let here = at_index c.args.self.now c.args.heads.now c.args.here.at in
+    let i = instruction_at c.args.heads.now c.args.here.immediate c.args.here.at in
+    let place = sum c.args.x c.args.here.immediate in
+    let to = place - place % 2 in
+    let straight : is_misaligned c.args.code.now to ≡ false = search rules in
+    (λ j. goes_on (record (c.link.ensures j) { place = to }))
+    ∙ (λ j. if sym straight j then trapped BadJump here else goes_on (record (with_register here i.destination (behind here i)) { place = to }))
