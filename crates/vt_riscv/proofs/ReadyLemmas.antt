@@ -1,11 +1,9 @@
 -- Instructions made ready.
-use Rattle.std.proofs.Common.{◌≡◌, inl, inr, ℕ, ◌+◌, ◌%◌, ◌^◌, ◌<◌, ◌≤◌, ◌∙◌, Bool, true, false, if◌then◌else◌, Some, List, [], ◌∷◌, ◌++◌, length, slice_get, slice_index, refl, sym, ap, subst, arith}
+use Rattle.std.proofs.Common.{◌≡◌, inl, inr, ℕ, ◌+◌, ◌%◌, ◌^◌, ◌<◌, ◌∙◌, Bool, true, false, if◌then◌else◌, Some, List, [], ◌∷◌, ◌++◌, length, slice_get, slice_index, sym, ap, subst, arith}
 use Rattle.std.proofs.lemmas.List.{get_or_append_left, length-append}
 use Rattle.std.proofs.Math.Seq.{get_or-append_seam}
 use Rattle.std.proofs.lemmas.Bool.{cases_lt}
 use Rattle.vt_riscv.specs.declared.instruction.Instruction.{Instruction}
-use Rattle.vt_riscv.specs.declared.instruction.Operation.{Operation}
-use Rattle.vt_riscv.specs.declared.instruction.Operation.TheVariants.{Bad}
 use Rattle.vt_riscv.specs.declared.ready.Head.{Head}
 use Rattle.vt_riscv.specs.Readiness.{place_at, step_of, ended, head_at, instruction_of, IsSmall, IsMade, IsReady, IsAimed}
 
