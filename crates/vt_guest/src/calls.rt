@@ -107,7 +107,7 @@ pub(crate) enum Next {
 }
 
 // The low 32 bits of a number.
-#[inline]
+#[inline(always)]
 fn low(x: u64) -> u32
     ensures { result ≡ low x }
 {
@@ -116,7 +116,7 @@ fn low(x: u64) -> u32
 
 impl<const SIZE: usize> Handling<SIZE> {
     // Goes on behind a call that has no answer.
-    #[inline]
+    #[inline(always)]
     fn pass(&mut self) -> Next
         ensures next { result ≡ (passed self.old).next }
         ensures handling { self.new ≡ (passed self.old).handling }
@@ -127,6 +127,7 @@ impl<const SIZE: usize> Handling<SIZE> {
     }
 
     // A number below another is to be drawn.
+    #[inline(always)]
     fn below(&self) -> Next
         ensures { result ≡ (below_of self.now).next }
     {
@@ -139,6 +140,7 @@ impl<const SIZE: usize> Handling<SIZE> {
     }
 
     // An event is sent.
+    #[inline(always)]
     fn send(&mut self, host: Host) -> Next
         ensures next { result ≡ (send_of host self.old).next }
         ensures handling { self.new ≡ (send_of host self.old).handling }
@@ -167,6 +169,7 @@ impl<const SIZE: usize> Handling<SIZE> {
     }
 
     // A record is made.
+    #[inline(always)]
     fn emit(&mut self, host: Host) -> Next
         ensures next { result ≡ (emit_of host self.old).next }
         ensures handling { self.new ≡ (emit_of host self.old).handling }
@@ -187,6 +190,7 @@ impl<const SIZE: usize> Handling<SIZE> {
     }
 
     // The number of processes is asked for.
+    #[inline(always)]
     fn lps(&mut self, host: Host) -> Next
         ensures next { result ≡ (lps_of host self.old).next }
         ensures handling { self.new ≡ (lps_of host self.old).handling }
@@ -199,6 +203,7 @@ impl<const SIZE: usize> Handling<SIZE> {
     }
 
     /// A call of the simulator, at which the machine stopped.
+    #[inline(always)]
     pub fn call(&mut self, host: Host) -> Next
         ensures next { result ≡ (call_of host self.old).next }
         ensures handling { self.new ≡ (call_of host self.old).handling }
@@ -218,6 +223,7 @@ impl<const SIZE: usize> Handling<SIZE> {
     }
 
     /// A word that was drawn is the answer of a call, or a number below another that it gives.
+    #[inline(always)]
     pub fn answer(&mut self, word: u32)
         requires { self.old.drawn < MAX_DRAWS }
         ensures { self.new ≡ answered_by self.old word }

@@ -25,7 +25,7 @@ fn blank_stack() -> [u8; STACK]
 
 impl<const SIZE: usize> Handling<SIZE> {
     /// A handler at its beginning, with so many steps to make. Registers a0 to a4 have its arguments.
-    #[inline]
+    #[inline(always)]
     pub fn begin(
         entry: u64,
         fuel: u64,
@@ -86,6 +86,7 @@ impl<const SIZE: usize> Handling<SIZE> {
     }
 
     // On to where the machine stops next. If it stops at a call, the call is made.
+    #[inline(always)]
     fn turn(&mut self, code: &Code, host: Host) -> Next
         ensures next { result ≡ (turn_of code.now host self.old).next }
         ensures handling { self.new ≡ (turn_of code.now host self.old).handling }
