@@ -55,6 +55,10 @@ with_options app options = fold (λ a o. with_rule a (option_rule o)) app option
 abbrev pub names_of : List OptionText → List Text
 names_of options = map (λ o. o.name.now) options
 
+-- what help says of options
+abbrev pub helps_of : List LineOption → List Text
+helps_of options = map (λ o. o.text.help.now) options
+
 -- options as the parser takes them
 abbrev pub option_of : LineOption → UsedOption
 option_of o = record { name = o.text.name.now; uses = o.uses }

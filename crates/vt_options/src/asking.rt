@@ -2,7 +2,7 @@
 
 ghost use Rattle.std.specs.Prelude.{◌≡◌, ◌++◌, [], List, IfOk, IfErr, codes, false, map};
 ghost use Rattle.clap.specs.Words.{Text, fault_of, subcommand_of, subcommand_rows_of, first_value, found_of, HasKind};
-ghost use Rattle.vt_options.specs.Line.{names_of, once, options_of, texts_in};
+ghost use Rattle.vt_options.specs.Line.{helps_of, names_of, once, options_of, texts_in};
 ghost use Rattle.vt_options.specs.Own.{AllHaveDefaults, GiveRun, GiveReplay, NamesBad, models_of, number_table, table_names, tables_of, naming_names, app_for, line_for, printing_options, program_options, run_options, replay_options, first_bad_of_run, first_bad_of_replay};
 ghost use Rattle.vt_options.specs.Requests.{IsRefusedByOf};
 ghost use Rattle.vt_options.specs.Asked.{IsAsked};
@@ -85,7 +85,8 @@ fn add_own(
     heading: &'static str,
     own: &[OwnOption],
 ) -> Result<(), AllocError>
-    ensures { IfOk result (λ _. options_of list.new.items ≡ options_of list.old.items ++ map once (map (λ o. o.name) (number_table own.now))) }
+    ensures options { IfOk result (λ _. options_of list.new.items ≡ options_of list.old.items ++ map once (map (λ o. o.name) (number_table own.now))) }
+    ensures helps { IfOk result (λ _. helps_of list.new.items ≡ helps_of list.old.items ++ map (λ o. o.help.now) own.now) }
 {
     for option in own {
         list.push(once(own_text(heading, option)))?;

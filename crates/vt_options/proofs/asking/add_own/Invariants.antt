@@ -1,8 +1,9 @@
 use Rattle.std.proofs.Common.{◌≡◌, ◌++◌, take, map}
-use Rattle.vt_options.specs.Line.{once, options_of}
+use Rattle.vt_options.specs.Line.{helps_of, once, options_of}
 use Rattle.vt_options.specs.Own.{number_table}
 use Rattle.vt_options.proofs.asking.add_own.Given as goal
 
--- the options so far were added
+-- the options so far were added, with their help
 abbrev pub invariant-loop-option : goal.invariant-loop-option
-invariant-loop-option l = options_of l.list.items ≡ options_of l.fn.list.items ++ map once (map (λ o. o.name) (number_table (take l.option-index l.own)))
+invariant-loop-option l = (options_of l.list.items ≡ options_of l.fn.list.items ++ map once (map (λ o. o.name) (number_table (take l.option-index l.own))))
+    × (helps_of l.list.items ≡ helps_of l.fn.list.items ++ map (λ o. o.help.now) (take l.option-index l.own))
