@@ -5,6 +5,7 @@ mod finals;
 mod gates;
 mod hand;
 mod lines;
+mod listener;
 mod pieces;
 mod refusals;
 mod replay;

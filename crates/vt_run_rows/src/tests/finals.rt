@@ -1,5 +1,6 @@
 //! Final values from workers.
 
+use crate::tests::listener::Listener;
 use crate::tests::running::{TURNS, all_records, two_hops};
 use crate::tests::told::holds;
 use std::alloc::AllocGlobal;
@@ -9,7 +10,7 @@ use std::sync::Wait;
 use std::thread::Threads;
 use vt_key::Fault;
 use vt_model::Config;
-use vt_station::{Finished, Open, Stopped, Unwatched, run_workers_to_finals};
+use vt_station::{Finished, Stopped, run_workers_to_finals};
 
 // The run with two hops on so many workers, each of so many turns.
 fn finals<R: Abort + AllocGlobal + Threads + Wait + Sync>(
@@ -19,7 +20,8 @@ fn finals<R: Abort + AllocGlobal + Threads + Wait + Sync>(
 ) -> Result<Finished, Stopped> {
     let config = Config::new(2, workers, 10, 0).expect(rt, "config");
     let model = two_hops(rt);
-    run_workers_to_finals(rt, rt.alloc(), config, &model, &Open, &Unwatched, turns)
+    let listener = Listener::new(false);
+    run_workers_to_finals(rt, rt.alloc(), config, &model, &listener, &listener, turns)
 }
 
 fn is_whole(finished: &Finished) -> bool {

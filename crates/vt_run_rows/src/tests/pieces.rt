@@ -1,5 +1,6 @@
 //! Runs in pieces.
 
+use crate::tests::listener::Listener;
 use crate::tests::running::{all_records, two_hops};
 use crate::tests::told::holds;
 use std::alloc::AllocGlobal;
@@ -9,7 +10,7 @@ use std::sync::Wait;
 use std::thread::Threads;
 use vt_model::{Config, Record};
 use vt_models::Hop;
-use vt_station::{Bells, Crew, Open, Standing, Station, Unwatched, Wanted};
+use vt_station::{Bells, Crew, Standing, Station, Wanted};
 
 /// The most pieces of a run, each of which has sixteen turns of a worker.
 const MOST_PIECES: u64 = 10_000;
@@ -19,10 +20,11 @@ fn in_pieces<R: Abort + AllocGlobal + Threads + Wait + Sync>(
     rt: &R,
     crew: &mut Crew<'_, Hop>,
 ) -> Vec<Record> {
+    let listener = Listener::new(false);
     let mut all = Vec::new(rt.alloc());
     let mut records = Vec::new(rt.alloc());
     for piece in 0..MOST_PIECES {
-        let standing = crew.work(rt, rt.alloc(), &Open, &Unwatched, 16 * (piece + 1));
+        let standing = crew.work(rt, rt.alloc(), &listener, &listener, 16 * (piece + 1));
         crew.hand_out(all.len(), &mut records).expect(rt, "records");
         all.extend_from_slice(records.as_slice())
             .expect(rt, "memory");
@@ -38,8 +40,9 @@ fn is_over<R: Abort + AllocGlobal + Threads + Wait + Sync>(
     rt: &R,
     crew: &mut Crew<'_, Hop>,
 ) -> bool {
+    let listener = Listener::new(false);
     let mut records = Vec::new(rt.alloc());
-    let standing = crew.work(rt, rt.alloc(), &Open, &Unwatched, 16 * MOST_PIECES + 1);
+    let standing = crew.work(rt, rt.alloc(), &listener, &listener, 16 * MOST_PIECES + 1);
     let handed = crew.hand_out(all_records().len(), &mut records);
     match standing {
         Standing::Whole => handed.is_ok() && records.is_empty(),

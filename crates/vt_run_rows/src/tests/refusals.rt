@@ -1,6 +1,7 @@
 //! Calls that are refused, and change nothing.
 
 use crate::tests::driving::{Crew, all_records};
+use crate::tests::hand::{do_step, is_answered, is_unread};
 use crate::tests::told::holds;
 use crate::tests::workers::workers_at;
 use std::process::Abort;
@@ -9,7 +10,7 @@ use vt_kernel::Kernel;
 use vt_key::{Colour, Fault};
 use vt_model::Config;
 use vt_models::Hop;
-use vt_places::Station;
+use vt_places::{Station, Worker};
 use vt_steps::Step;
 
 /// What is told of a worker: the lengths of its outbox and of what arrived, and its serial; its colour, where 1 is red; its counts
@@ -144,4 +145,30 @@ fn nothing_is_taken_out_before_any_visit(rt: HostRuntime) {
         Err(_) => false,
     };
     holds(&rt, is_empty, "no records");
+}
+
+/// Once a place has taken the records out, the book stays claimed. The other place is refused it, and its worker is as it was.
+#[test]
+fn a_book_that_was_taken_out_stays_claimed(rt: HostRuntime) {
+    let model = Hop::new(1, 1, 1, 0).expect(&rt, "options");
+    let config = Config::new(2, 2, 10, 0).expect(&rt, "config");
+    let (station, places) = Station::new(rt.alloc(), &model, config).expect(&rt, "memory");
+    let mut places = places;
+    let first = places.remove(0);
+    let second = places.remove(0);
+    let Ok(mut worker) = Worker::new(rt.alloc(), &station, &model, config, 1, second) else {
+        return holds(&rt, false, "memory");
+    };
+    let taken = station.take_out(rt.alloc(), first);
+    holds(&rt, taken.is_ok(), "the records are taken out");
+    is_refused_the_book(&rt, &mut worker);
+}
+
+fn is_refused_the_book(rt: &impl Abort, worker: &mut Worker<'_, Hop>) {
+    let unchanged = ([1, 0, 1], 0, [0, 0, 0, 0], [10, 0]);
+    tells(rt, worker.kernel(), unchanged);
+    let answer = do_step(worker, Step::Commit(1));
+    is_answered(rt, Step::Commit(1), answer == Err(Fault::Busy));
+    holds(rt, is_unread(worker), "copies of records are refused");
+    tells(rt, worker.kernel(), unchanged);
 }

@@ -1,5 +1,6 @@
 //! Runs of two workers whose turns may end before the run does.
 
+use crate::tests::listener::Listener;
 use crate::tests::running::{all_records, ran, two_hops};
 use crate::tests::told::holds;
 use std::alloc::AllocGlobal;
@@ -9,7 +10,7 @@ use std::sync::Wait;
 use std::thread::Threads;
 use vt_key::Fault;
 use vt_model::{Config, Record};
-use vt_station::{Open, Stopped};
+use vt_station::Stopped;
 
 // Whether a run stopped since turns were spent, and left a beginning of the records.
 fn has_spent_its_turns(stopped: &Stopped) -> bool {
@@ -38,7 +39,7 @@ fn of_turns<R: Abort + AllocGlobal + Threads + Wait + Sync>(
     turns: u64,
 ) -> Result<Vec<Record>, Stopped> {
     let config = Config::new(2, 2, 10, 0).expect(rt, "config");
-    ran(rt, &two_hops(rt), config, &Open, turns)
+    ran(rt, &two_hops(rt), config, &Listener::new(false), turns)
 }
 
 /// One turn can't close a round, so nothing is committed.
