@@ -1,5 +1,5 @@
 -- Why a program is refused, and which option is bad.
-use Rattle.std.proofs.Common.{◌≡◌, ◌⊎◌, ◌∙◌, ℕ, List, Option, Some, None, ap, inl, inr, map, refl, subst, sym}
+use Rattle.std.proofs.Common.{◌≡◌, ◌⊎◌, ◌∙◌, ℕ, List, Option, Some, ap, inl, inr, map, refl, subst, sym}
 use Rattle.clap.specs.Words.{Text}
 use Rattle.vt_options.specs.declared.programs.Assignment.{Assignment}
 use Rattle.vt_options.specs.Programs.{pair_of}

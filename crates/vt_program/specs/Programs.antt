@@ -1,5 +1,5 @@
 -- Programs in the place of a model: what is made of files and of what the words give.
-use Rattle.std.specs.Prelude.{◌≡◌, ◌⊎◌, ◌<◌, ◌≤◌, ℕ, ⊤, List, [], length, map, Option, Some, None, IfSome, option_map, string_bytes, codes}
+use Rattle.std.specs.Prelude.{◌≡◌, ◌<◌, ◌≤◌, ℕ, ⊤, List, [], length, map, Option, Some, None, IfSome, option_map, string_bytes, codes}
 use Rattle.clap.specs.Words.{Text}
 use Rattle.vt_options.specs.declared.programs.ProgramChoice.{ProgramChoice}
 use Rattle.vt_options.specs.declared.processes.Unsettled.{Unsettled}
