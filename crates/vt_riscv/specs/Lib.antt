@@ -4,5 +4,6 @@ pub mod Decoding
 pub mod Compressed
 pub mod Codes
 pub mod Readiness
+pub mod Effects
 pub mod Steps
 pub mod Sprints

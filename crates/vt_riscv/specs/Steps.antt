@@ -1,11 +1,8 @@
 -- What one instruction does, and a run of them.
-use Rattle.std.specs.Prelude.{ℕ, zero, suc, ◌-◌, ◌/◌, ◌%◌, Bool, true, false, ◌||◌, not, nat_eq, nat_lt, nat_le, if◌then◌else◌, bit_and, bit_or, bit_xor, Option, Some, None, List, slice_index, slice_get, slice_set}
-use Rattle.std.specs.Int.{w64, from_bool}
+use Rattle.std.specs.Prelude.{ℕ, zero, suc, ◌-◌, ◌/◌, ◌%◌, Bool, true, false, ◌||◌, not, nat_eq, nat_lt, nat_le, if◌then◌else◌, Option, Some, None, List, slice_index, slice_get, slice_set}
 use Rattle.vt_riscv.specs.declared.places.TheConstants.{IMAGE, DATA, STATE, STACK, RETURN}
 use Rattle.vt_riscv.specs.declared.memory.Size.{Size}
-use Rattle.vt_riscv.specs.declared.memory.Size.TheVariants.{Byte, Half, Word, Double}
 use Rattle.vt_riscv.specs.declared.instruction.Operation.{Operation}
-use Rattle.vt_riscv.specs.declared.instruction.Operation.TheVariants.{Bad, Lui, Auipc, Jal, Jalr, Beq, Bne, Blt, Bge, Bltu, Bgeu, Lb, Lh, Lw, Ld, Lbu, Lhu, Lwu, Sb, Sh, Sw, Sd, Addi, Slti, Sltiu, Xori, Ori, Andi, Slli, Srli, Srai, Add, Sub, Sll, Slt, Sltu, Xor, Srl, Sra, Or, And, Addiw, Slliw, Srliw, Sraiw, Addw, Subw, Sllw, Srlw, Sraw, Fence, Ecall, Ebreak, Mul, Mulh, Mulhsu, Mulhu, Div, Divu, Rem, Remu, Mulw, Divw, Divuw, Remw, Remuw}
 use Rattle.vt_riscv.specs.declared.instruction.Instruction.{Instruction}
 use Rattle.vt_riscv.specs.declared.code.Code.{Code}
 use Rattle.vt_riscv.specs.declared.machine.Machine.{Machine}
@@ -14,8 +11,11 @@ use Rattle.vt_riscv.specs.declared.machine.Trap.TheVariants.{BadJump, BadInstruc
 use Rattle.vt_riscv.specs.declared.machine.Stop.{Stop}
 use Rattle.vt_riscv.specs.declared.machine.Stop.TheVariants.{Called, Ended, Trapped, Spent}
 use Rattle.vt_riscv.specs.declared.machine.Outcome.{Outcome}
-use Rattle.vt_riscv.specs.Arithmetic.{sum, difference, sum_of_words, difference_of_words, left, right, right_signed, left_of_word, right_of_word, right_signed_of_word, less_signed, product, product_of_words, upper_signed, upper_mixed, upper_unsigned, quotient, rest, quotient_signed, rest_signed, quotient_of_words, rest_of_words, signed_quotient_of_words, signed_rest_of_words}
+use Rattle.vt_riscv.specs.declared.effect.Effect.{Effect}
+use Rattle.vt_riscv.specs.declared.effect.Effect.TheVariants.{Put, PutPlace, Jump, JumpTo, Branch, Load, LoadSigned, Store, Pass, Call, Fail}
+use Rattle.vt_riscv.specs.Arithmetic.{sum}
 use Rattle.vt_riscv.specs.Memory.{number_within, stored_within, extended}
+use Rattle.vt_riscv.specs.Effects.{effect_of}
 
 -- why the machine stops, if it does, and the machine then
 pub record Turn (N : ℕ) : Type 0 where
@@ -119,81 +119,23 @@ module _ {N : ℕ} where
       else (if nat_le (STATE - STACK) at then stack_put m i (stored_within size m.stack (at - (STATE - STACK)) v)
       else trapped BadPlace m)
 
+  -- an instruction that does this
+  abbrev pub done : Code → Machine N → Instruction → Effect → Turn N
+  done code m i (Put v) = put_in m i v
+  done code m i PutPlace = put_in m i (sum m.place i.immediate)
+  done code m i Jump = jumped code m i (sum m.place i.immediate)
+  done code m i JumpTo = jumped code m i (address m i - address m i % 2)
+  done code m i (Branch taken) = branched code m i taken
+  done code m i (Load size) = loaded code m i size (address m i)
+  done code m i (LoadSigned size) = loaded_signed code m i size (address m i)
+  done code m i (Store size) = stored_at m i size (address m i) (register_of m i.second)
+  done code m i Pass = passed m i
+  done code m i Call = stops Called m
+  done code m i (Fail why) = trapped why m
+
   -- an instruction, by its operation
   abbrev pub exec_of : Code → Machine N → Instruction → Operation → Turn N
-  exec_of code m i Bad = trapped BadInstruction m
-  -- 2.4 Integer Computational Instructions, and 5.2 of RV64I
-  exec_of code m i Addi = put_in m i (sum (register_of m i.first) i.immediate)
-  exec_of code m i Slti = put_in m i (from_bool (less_signed (register_of m i.first) i.immediate))
-  exec_of code m i Sltiu = put_in m i (from_bool (nat_lt (register_of m i.first) i.immediate))
-  exec_of code m i Xori = put_in m i (bit_xor (register_of m i.first) i.immediate)
-  exec_of code m i Ori = put_in m i (bit_or (register_of m i.first) i.immediate)
-  exec_of code m i Andi = put_in m i (bit_and (register_of m i.first) i.immediate)
-  exec_of code m i Slli = put_in m i (left (register_of m i.first) i.immediate)
-  exec_of code m i Srli = put_in m i (right (register_of m i.first) i.immediate)
-  exec_of code m i Srai = put_in m i (right_signed (register_of m i.first) i.immediate)
-  exec_of code m i Lui = put_in m i i.immediate
-  exec_of code m i Auipc = put_in m i (sum m.place i.immediate)
-  exec_of code m i Addiw = put_in m i (sum_of_words (register_of m i.first) i.immediate)
-  exec_of code m i Slliw = put_in m i (left_of_word (register_of m i.first) i.immediate)
-  exec_of code m i Srliw = put_in m i (right_of_word (register_of m i.first) i.immediate)
-  exec_of code m i Sraiw = put_in m i (right_signed_of_word (register_of m i.first) i.immediate)
-  exec_of code m i Add = put_in m i (sum (register_of m i.first) (register_of m i.second))
-  exec_of code m i Sub = put_in m i (difference (register_of m i.first) (register_of m i.second))
-  exec_of code m i Sll = put_in m i (left (register_of m i.first) (register_of m i.second))
-  exec_of code m i Slt = put_in m i (from_bool (less_signed (register_of m i.first) (register_of m i.second)))
-  exec_of code m i Sltu = put_in m i (from_bool (nat_lt (register_of m i.first) (register_of m i.second)))
-  exec_of code m i Xor = put_in m i (bit_xor (register_of m i.first) (register_of m i.second))
-  exec_of code m i Srl = put_in m i (right (register_of m i.first) (register_of m i.second))
-  exec_of code m i Sra = put_in m i (right_signed (register_of m i.first) (register_of m i.second))
-  exec_of code m i Or = put_in m i (bit_or (register_of m i.first) (register_of m i.second))
-  exec_of code m i And = put_in m i (bit_and (register_of m i.first) (register_of m i.second))
-  exec_of code m i Addw = put_in m i (sum_of_words (register_of m i.first) (register_of m i.second))
-  exec_of code m i Subw = put_in m i (difference_of_words (register_of m i.first) (register_of m i.second))
-  exec_of code m i Sllw = put_in m i (left_of_word (register_of m i.first) (register_of m i.second))
-  exec_of code m i Srlw = put_in m i (right_of_word (register_of m i.first) (register_of m i.second))
-  exec_of code m i Sraw = put_in m i (right_signed_of_word (register_of m i.first) (register_of m i.second))
-  -- 2.5 Control Transfer Instructions
-  exec_of code m i Jal = jumped code m i (sum m.place i.immediate)
-  exec_of code m i Jalr = jumped code m i (address m i - address m i % 2)
-  exec_of code m i Beq = branched code m i (nat_eq (register_of m i.first) (register_of m i.second))
-  exec_of code m i Bne = branched code m i (not (nat_eq (register_of m i.first) (register_of m i.second)))
-  exec_of code m i Blt = branched code m i (less_signed (register_of m i.first) (register_of m i.second))
-  exec_of code m i Bge = branched code m i (not (less_signed (register_of m i.first) (register_of m i.second)))
-  exec_of code m i Bltu = branched code m i (nat_lt (register_of m i.first) (register_of m i.second))
-  exec_of code m i Bgeu = branched code m i (not (nat_lt (register_of m i.first) (register_of m i.second)))
-  -- 2.6 Load and Store Instructions, and 5.3 of RV64I
-  exec_of code m i Lb = loaded_signed code m i Byte (address m i)
-  exec_of code m i Lh = loaded_signed code m i Half (address m i)
-  exec_of code m i Lw = loaded_signed code m i Word (address m i)
-  exec_of code m i Ld = loaded code m i Double (address m i)
-  exec_of code m i Lbu = loaded code m i Byte (address m i)
-  exec_of code m i Lhu = loaded code m i Half (address m i)
-  exec_of code m i Lwu = loaded code m i Word (address m i)
-  exec_of code m i Sb = stored_at m i Byte (address m i) (register_of m i.second)
-  exec_of code m i Sh = stored_at m i Half (address m i) (register_of m i.second)
-  exec_of code m i Sw = stored_at m i Word (address m i) (register_of m i.second)
-  exec_of code m i Sd = stored_at m i Double (address m i) (register_of m i.second)
-  -- 2.7 Memory Ordering Instructions
-  exec_of code m i Fence = passed m i
-  -- 2.8 Environment Call and Breakpoints
-  exec_of code m i Ecall = stops Called m
-  exec_of code m i Ebreak = trapped Breakpoint m
-  -- 7.1 Multiplication Operations
-  exec_of code m i Mul = put_in m i (product (register_of m i.first) (register_of m i.second))
-  exec_of code m i Mulh = put_in m i (upper_signed (register_of m i.first) (register_of m i.second))
-  exec_of code m i Mulhsu = put_in m i (upper_mixed (register_of m i.first) (register_of m i.second))
-  exec_of code m i Mulhu = put_in m i (upper_unsigned (register_of m i.first) (register_of m i.second))
-  exec_of code m i Mulw = put_in m i (product_of_words (register_of m i.first) (register_of m i.second))
-  -- 7.2 Division Operations
-  exec_of code m i Div = put_in m i (quotient_signed w64 (register_of m i.first) (register_of m i.second))
-  exec_of code m i Divu = put_in m i (quotient w64 (register_of m i.first) (register_of m i.second))
-  exec_of code m i Rem = put_in m i (rest_signed w64 (register_of m i.first) (register_of m i.second))
-  exec_of code m i Remu = put_in m i (rest (register_of m i.first) (register_of m i.second))
-  exec_of code m i Divw = put_in m i (signed_quotient_of_words (register_of m i.first) (register_of m i.second))
-  exec_of code m i Divuw = put_in m i (quotient_of_words (register_of m i.first) (register_of m i.second))
-  exec_of code m i Remw = put_in m i (signed_rest_of_words (register_of m i.first) (register_of m i.second))
-  exec_of code m i Remuw = put_in m i (rest_of_words (register_of m i.first) (register_of m i.second))
+  exec_of code m i o = done code m i (effect_of o (register_of m i.first) (register_of m i.second) i.immediate)
 
   -- a step: the instruction at the machine's place. Where there is none, the program ends, if that is the place to end at
   abbrev pub obeyed : Code → Machine N → Option Instruction → Turn N

@@ -6,6 +6,7 @@ mod arithmetic;
 mod code;
 mod compressed;
 mod decoding;
+mod effect;
 mod instruction;
 mod machine;
 mod memory;

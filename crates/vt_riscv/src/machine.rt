@@ -3,14 +3,9 @@
 ghost use Rattle.std.specs.Prelude.{◌≡◌};
 ghost use Rattle.vt_riscv.specs.Steps.{is_misaligned, fetch_of, with_register, put_in, passed, jumped, branched, register_of, loaded_from, loaded, loaded_signed, stored_at, exec_of, step_of, run_of, answered};
 
-use crate::arithmetic::{
-    difference_of_words, left_of_word, less_signed, product_of_words, quotient, quotient_of_words,
-    quotient_signed, rest, rest_of_words, rest_signed, right_of_word, right_signed,
-    right_signed_of_word, signed_quotient_of_words, signed_rest_of_words, sum_of_words,
-    upper_mixed, upper_signed, upper_unsigned,
-};
+use crate::effect::{Effect, effect_of};
 use crate::memory::{Size, extended, number_within, store, width};
-use crate::{Code, DATA, IMAGE, Instruction, Operation, RETURN, STACK, STATE};
+use crate::{Code, DATA, IMAGE, Instruction, RETURN, STACK, STATE};
 
 /// Why an instruction can't be done. The machine is as before it, at its place.
 #[derive(Debug, Clone, Copy, PartialEq, Eq)]
@@ -229,74 +224,23 @@ impl<const N: usize> Machine<N> {
     {
         let x = self.register(i.first);
         let y = self.register(i.second);
-        let at = x.wrapping_add(i.immediate);
-        match i.operation {
-            Operation::Bad => Some(Stop::Trapped(Trap::BadInstruction)),
-            Operation::Lui => self.put(i, i.immediate),
-            Operation::Auipc => self.put(i, self.place.wrapping_add(i.immediate)),
-            Operation::Jal => self.jump(code, i, self.place.wrapping_add(i.immediate)),
-            Operation::Jalr => self.jump(code, i, at - at % 2),
-            Operation::Beq => self.branch(code, i, x == y),
-            Operation::Bne => self.branch(code, i, x != y),
-            Operation::Blt => self.branch(code, i, less_signed(x, y)),
-            Operation::Bge => self.branch(code, i, !less_signed(x, y)),
-            Operation::Bltu => self.branch(code, i, x < y),
-            Operation::Bgeu => self.branch(code, i, x >= y),
-            Operation::Lb => self.load_signed(code, i, at, Size::Byte),
-            Operation::Lh => self.load_signed(code, i, at, Size::Half),
-            Operation::Lw => self.load_signed(code, i, at, Size::Word),
-            Operation::Ld => self.load(code, i, at, Size::Double),
-            Operation::Lbu => self.load(code, i, at, Size::Byte),
-            Operation::Lhu => self.load(code, i, at, Size::Half),
-            Operation::Lwu => self.load(code, i, at, Size::Word),
-            Operation::Sb => self.store(i, at, y, Size::Byte),
-            Operation::Sh => self.store(i, at, y, Size::Half),
-            Operation::Sw => self.store(i, at, y, Size::Word),
-            Operation::Sd => self.store(i, at, y, Size::Double),
-            Operation::Addi => self.put(i, at),
-            Operation::Slti => self.put(i, u64::from(less_signed(x, i.immediate))),
-            Operation::Sltiu => self.put(i, u64::from(x < i.immediate)),
-            Operation::Xori => self.put(i, x ^ i.immediate),
-            Operation::Ori => self.put(i, x | i.immediate),
-            Operation::Andi => self.put(i, x & i.immediate),
-            Operation::Slli => self.put(i, x << (i.immediate % 64)),
-            Operation::Srli => self.put(i, x >> (i.immediate % 64)),
-            Operation::Srai => self.put(i, right_signed(x, i.immediate)),
-            Operation::Add => self.put(i, x.wrapping_add(y)),
-            Operation::Sub => self.put(i, x.wrapping_sub(y)),
-            Operation::Sll => self.put(i, x << (y % 64)),
-            Operation::Slt => self.put(i, u64::from(less_signed(x, y))),
-            Operation::Sltu => self.put(i, u64::from(x < y)),
-            Operation::Xor => self.put(i, x ^ y),
-            Operation::Srl => self.put(i, x >> (y % 64)),
-            Operation::Sra => self.put(i, right_signed(x, y)),
-            Operation::Or => self.put(i, x | y),
-            Operation::And => self.put(i, x & y),
-            Operation::Addiw => self.put(i, sum_of_words(x, i.immediate)),
-            Operation::Slliw => self.put(i, left_of_word(x, i.immediate)),
-            Operation::Srliw => self.put(i, right_of_word(x, i.immediate)),
-            Operation::Sraiw => self.put(i, right_signed_of_word(x, i.immediate)),
-            Operation::Addw => self.put(i, sum_of_words(x, y)),
-            Operation::Subw => self.put(i, difference_of_words(x, y)),
-            Operation::Sllw => self.put(i, left_of_word(x, y)),
-            Operation::Srlw => self.put(i, right_of_word(x, y)),
-            Operation::Sraw => self.put(i, right_signed_of_word(x, y)),
-            Operation::Fence => self.pass(i),
-            Operation::Ecall => Some(Stop::Called),
-            Operation::Ebreak => Some(Stop::Trapped(Trap::Breakpoint)),
-            Operation::Mul => self.put(i, x.wrapping_mul(y)),
-            Operation::Mulh => self.put(i, upper_signed(x, y)),
-            Operation::Mulhsu => self.put(i, upper_mixed(x, y)),
-            Operation::Mulhu => self.put(i, upper_unsigned(x, y)),
-            Operation::Div => self.put(i, quotient_signed(x, y)),
-            Operation::Divu => self.put(i, quotient(x, y)),
-            Operation::Rem => self.put(i, rest_signed(x, y)),
-            Operation::Remu => self.put(i, rest(x, y)),
-            Operation::Mulw => self.put(i, product_of_words(x, y)),
-            Operation::Divw => self.put(i, signed_quotient_of_words(x, y)),
-            Operation::Divuw => self.put(i, quotient_of_words(x, y)),
-            Operation::Remw => self.put(i, signed_rest_of_words(x, y)),
-            Operation::Remuw => self.put(i, rest_of_words(x, y)),
+        match effect_of(i.operation, x, y, i.immediate) {
+            Effect::Put(v) => self.put(i, v),
+            Effect::PutPlace => self.put(i, self.place.wrapping_add(i.immediate)),
+            Effect::Jump => self.jump(code, i, self.place.wrapping_add(i.immediate)),
+            Effect::JumpTo => {
+                let at = x.wrapping_add(i.immediate);
+                self.jump(code, i, at - at % 2)
+            }
+            Effect::Branch(taken) => self.branch(code, i, taken),
+            Effect::Load(size) => self.load(code, i, x.wrapping_add(i.immediate), size),
+            Effect::LoadSigned(size) => {
+                self.load_signed(code, i, x.wrapping_add(i.immediate), size)
+            }
+            Effect::Store(size) => self.store(i, x.wrapping_add(i.immediate), y, size),
+            Effect::Pass => self.pass(i),
+            Effect::Call => Some(Stop::Called),
+            Effect::Fail(trap) => Some(Stop::Trapped(trap)),
         }
     }
 

@@ -6,14 +6,11 @@ ghost use Rattle.vt_riscv.specs.Readiness.{place_at, head_at, instruction_at, Is
 ghost use Rattle.vt_riscv.specs.Steps.{register_of, with_register, behind, put_in, branched, jumped, loaded, loaded_signed, stored_at, exec_of, run_of};
 ghost use Rattle.vt_riscv.specs.Sprints.{at_index, seen, due, rest_of, IsAim};
 
-use crate::arithmetic::{
-    difference_of_words, left_of_word, less_signed, product_of_words, quotient, rest,
-    right_of_word, right_signed, sum_of_words,
-};
+use crate::effect::{Effect, effect_of};
 use crate::machine::is_misaligned;
 use crate::memory::{Size, extended, store, width};
 use crate::ready::{Head, index_of, place_at, place_of};
-use crate::{Code, Machine, Operation, STACK, STATE};
+use crate::{Code, Machine, STACK, STATE};
 
 /// How the machine goes on after a ready instruction.
 #[derive(Clone, Copy)]
@@ -211,110 +208,24 @@ impl<const N: usize> Machine<N> {
     {
         let head = &heads[here.at];
         let x = self.read(head.first);
+        let y = self.read(head.second);
         let number = here.immediate;
-        match head.operation {
-            Operation::Lui => self.put_ready(heads, here, number),
-            Operation::Auipc => self.put_ready(
+        match effect_of(head.operation, x, y, number) {
+            Effect::Put(v) => self.put_ready(heads, here, v),
+            Effect::PutPlace => self.put_ready(
                 heads,
                 here,
                 place_at(head.place).wrapping_add(number),
             ),
-            Operation::Jal => self.link_ready(code, heads, targets, here),
-            Operation::Jalr => self.jump_ready(code, heads, here, x),
-            Operation::Beq => self.branch_ready(
-                code,
-                heads,
-                targets,
-                here,
-                x == self.read(head.second),
-            ),
-            Operation::Bne => self.branch_ready(
-                code,
-                heads,
-                targets,
-                here,
-                x != self.read(head.second),
-            ),
-            Operation::Blt => self.branch_ready(
-                code,
-                heads,
-                targets,
-                here,
-                less_signed(x, self.read(head.second)),
-            ),
-            Operation::Bge => self.branch_ready(
-                code,
-                heads,
-                targets,
-                here,
-                !less_signed(x, self.read(head.second)),
-            ),
-            Operation::Bltu => self.branch_ready(
-                code,
-                heads,
-                targets,
-                here,
-                x < self.read(head.second),
-            ),
-            Operation::Bgeu => self.branch_ready(
-                code,
-                heads,
-                targets,
-                here,
-                x >= self.read(head.second),
-            ),
-            Operation::Lb => self.load_signed_ready(code, heads, here, x, Size::Byte),
-            Operation::Lh => self.load_signed_ready(code, heads, here, x, Size::Half),
-            Operation::Lw => self.load_signed_ready(code, heads, here, x, Size::Word),
-            Operation::Ld => self.load_ready(code, heads, here, x, Size::Double),
-            Operation::Lbu => self.load_ready(code, heads, here, x, Size::Byte),
-            Operation::Lhu => self.load_ready(code, heads, here, x, Size::Half),
-            Operation::Lwu => self.load_ready(code, heads, here, x, Size::Word),
-            Operation::Sb => self.store_ready(heads, here, x, self.read(head.second), Size::Byte),
-            Operation::Sh => self.store_ready(heads, here, x, self.read(head.second), Size::Half),
-            Operation::Sw => self.store_ready(heads, here, x, self.read(head.second), Size::Word),
-            Operation::Sd => self.store_ready(heads, here, x, self.read(head.second), Size::Double),
-            Operation::Addi => self.put_ready(heads, here, x.wrapping_add(number)),
-            Operation::Slti => self.put_ready(heads, here, u64::from(less_signed(x, number))),
-            Operation::Sltiu => self.put_ready(heads, here, u64::from(x < number)),
-            Operation::Xori => self.put_ready(heads, here, x ^ number),
-            Operation::Ori => self.put_ready(heads, here, x | number),
-            Operation::Andi => self.put_ready(heads, here, x & number),
-            Operation::Slli => self.put_ready(heads, here, x << (number % 64)),
-            Operation::Srli => self.put_ready(heads, here, x >> (number % 64)),
-            Operation::Srai => self.put_ready(heads, here, right_signed(x, number)),
-            Operation::Add => self.put_ready(heads, here, x.wrapping_add(self.read(head.second))),
-            Operation::Sub => self.put_ready(heads, here, x.wrapping_sub(self.read(head.second))),
-            Operation::Sll => self.put_ready(heads, here, x << (self.read(head.second) % 64)),
-            Operation::Slt => self.put_ready(
-                heads,
-                here,
-                u64::from(less_signed(x, self.read(head.second))),
-            ),
-            Operation::Sltu => self.put_ready(heads, here, u64::from(x < self.read(head.second))),
-            Operation::Xor => self.put_ready(heads, here, x ^ self.read(head.second)),
-            Operation::Srl => self.put_ready(heads, here, x >> (self.read(head.second) % 64)),
-            Operation::Or => self.put_ready(heads, here, x | self.read(head.second)),
-            Operation::And => self.put_ready(heads, here, x & self.read(head.second)),
-            Operation::Addiw => self.put_ready(heads, here, sum_of_words(x, number)),
-            Operation::Slliw => self.put_ready(heads, here, left_of_word(x, number)),
-            Operation::Srliw => self.put_ready(heads, here, right_of_word(x, number)),
-            Operation::Addw => self.put_ready(heads, here, sum_of_words(x, self.read(head.second))),
-            Operation::Subw => self.put_ready(
-                heads,
-                here,
-                difference_of_words(x, self.read(head.second)),
-            ),
-            Operation::Ecall => Go::Called,
-            Operation::Mul => self.put_ready(heads, here, x.wrapping_mul(self.read(head.second))),
-            Operation::Mulw => self.put_ready(
-                heads,
-                here,
-                product_of_words(x, self.read(head.second)),
-            ),
-            Operation::Divu => self.put_ready(heads, here, quotient(x, self.read(head.second))),
-            Operation::Remu => self.put_ready(heads, here, rest(x, self.read(head.second))),
-            _ => Go::Not,
+            Effect::Jump => self.link_ready(code, heads, targets, here),
+            Effect::JumpTo => self.jump_ready(code, heads, here, x),
+            Effect::Branch(taken) => self.branch_ready(code, heads, targets, here, taken),
+            Effect::Load(size) => self.load_ready(code, heads, here, x, size),
+            Effect::LoadSigned(size) => self.load_signed_ready(code, heads, here, x, size),
+            Effect::Store(size) => self.store_ready(heads, here, x, y, size),
+            Effect::Call => Go::Called,
+            Effect::Pass => Go::Next,
+            Effect::Fail(_) => Go::Not,
         }
     }
 
