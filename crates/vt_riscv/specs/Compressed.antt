@@ -25,30 +25,30 @@ abbrev pub low_in : ℕ → ℕ
 low_in h = 8 + bits_at h 2 3
 
 -- 16.3 Load and Store Instructions: offsets from the stack pointer and from a register
-abbrev pub lwsp_offset : ℕ → ℕ
+unfoldable pub lwsp_offset : ℕ → ℕ
 lwsp_offset h = bits_at h 12 1 * 2 ^ 5 + bits_at h 4 3 * 2 ^ 2 + bits_at h 2 2 * 2 ^ 6
 
-abbrev pub ldsp_offset : ℕ → ℕ
+unfoldable pub ldsp_offset : ℕ → ℕ
 ldsp_offset h = bits_at h 12 1 * 2 ^ 5 + bits_at h 5 2 * 2 ^ 3 + bits_at h 2 3 * 2 ^ 6
 
-abbrev pub swsp_offset : ℕ → ℕ
+unfoldable pub swsp_offset : ℕ → ℕ
 swsp_offset h = bits_at h 9 4 * 2 ^ 2 + bits_at h 7 2 * 2 ^ 6
 
-abbrev pub sdsp_offset : ℕ → ℕ
+unfoldable pub sdsp_offset : ℕ → ℕ
 sdsp_offset h = bits_at h 10 3 * 2 ^ 3 + bits_at h 7 3 * 2 ^ 6
 
-abbrev pub word_offset : ℕ → ℕ
+unfoldable pub word_offset : ℕ → ℕ
 word_offset h = bits_at h 10 3 * 2 ^ 3 + bits_at h 6 1 * 2 ^ 2 + bits_at h 5 1 * 2 ^ 6
 
-abbrev pub double_offset : ℕ → ℕ
+unfoldable pub double_offset : ℕ → ℕ
 double_offset h = bits_at h 10 3 * 2 ^ 3 + bits_at h 5 2 * 2 ^ 6
 
 -- 16.4 Control Transfer Instructions: how far a jump and a branch lead
-abbrev pub jump_offset : ℕ → ℕ
+unfoldable pub jump_offset : ℕ → ℕ
 jump_offset h =
     by_sign (bits_at h 12 1 * 2 ^ 11 + bits_at h 11 1 * 2 ^ 4 + bits_at h 9 2 * 2 ^ 8 + bits_at h 8 1 * 2 ^ 10 + bits_at h 7 1 * 2 ^ 6 + bits_at h 6 1 * 2 ^ 7 + bits_at h 3 3 * 2 + bits_at h 2 1 * 2 ^ 5) (2 ^ 11)
 
-abbrev pub branch_offset : ℕ → ℕ
+unfoldable pub branch_offset : ℕ → ℕ
 branch_offset h =
     by_sign (bits_at h 12 1 * 2 ^ 8 + bits_at h 10 2 * 2 ^ 3 + bits_at h 5 2 * 2 ^ 6 + bits_at h 3 2 * 2 + bits_at h 2 1 * 2 ^ 5) (2 ^ 8)
 
@@ -62,11 +62,11 @@ immediate_in h = by_sign (amount_in h) (2 ^ 5)
 abbrev pub upper_in : ℕ → ℕ
 upper_in h = by_sign (amount_in h * 2 ^ 12) (2 ^ 17)
 
-abbrev pub addi16sp_immediate : ℕ → ℕ
+unfoldable pub addi16sp_immediate : ℕ → ℕ
 addi16sp_immediate h =
     by_sign (bits_at h 12 1 * 2 ^ 9 + bits_at h 6 1 * 2 ^ 4 + bits_at h 5 1 * 2 ^ 6 + bits_at h 3 2 * 2 ^ 7 + bits_at h 2 1 * 2 ^ 5) (2 ^ 9)
 
-abbrev pub addi4spn_immediate : ℕ → ℕ
+unfoldable pub addi4spn_immediate : ℕ → ℕ
 addi4spn_immediate h = bits_at h 11 2 * 2 ^ 4 + bits_at h 7 4 * 2 ^ 6 + bits_at h 6 1 * 2 ^ 2 + bits_at h 5 1 * 2 ^ 3
 
 -- an instruction of this length, with its result's register, the two that it reads, and its immediate
@@ -81,7 +81,7 @@ abbrev pub unless_reserved : Bool → Instruction → Instruction
 unless_reserved reserved i = if reserved then no_instruction else i
 
 -- table 16.5, quadrant 0, by the upper three bits
-abbrev pub quadrant_0 : ℕ → ℕ → Instruction
+unfoldable pub quadrant_0 : ℕ → ℕ → Instruction
 quadrant_0 h n =
     if nat_eq n 0 then unless_reserved (nat_eq (addi4spn_immediate h) 0) (short Addi (low_in h) 2 0 (addi4spn_immediate h))
     else (if nat_eq n 2 then short Lw (low_in h) (high_in h) 0 (word_offset h)
@@ -91,25 +91,25 @@ quadrant_0 h n =
     else no_instruction))))
 
 -- table 16.6, quadrant 1. Of C.ADDI16SP and C.LUI
-abbrev pub upper_of : ℕ → ℕ → Instruction
+unfoldable pub upper_of : ℕ → ℕ → Instruction
 upper_of h rd =
     if nat_eq rd 2 then unless_reserved (nat_eq (amount_in h) 0) (short Addi 2 2 0 (addi16sp_immediate h))
     else unless_reserved (nat_eq (amount_in h) 0) (short Lui rd 0 0 (upper_in h))
 
 -- of two registers
-abbrev pub registers_of : ℕ → ℕ → Operation
+unfoldable pub registers_of : ℕ → ℕ → Operation
 registers_of words n =
     if nat_eq words 0 then (if nat_eq n 0 then Sub else (if nat_eq n 1 then Xor else (if nat_eq n 2 then Or else And)))
     else (if nat_eq n 0 then Subw else (if nat_eq n 1 then Addw else Bad))
 
-abbrev pub arithmetic_of : ℕ → ℕ → Instruction
+unfoldable pub arithmetic_of : ℕ → ℕ → Instruction
 arithmetic_of h n =
     if nat_eq n 0 then short Srli (high_in h) (high_in h) 0 (amount_in h)
     else (if nat_eq n 1 then short Srai (high_in h) (high_in h) 0 (amount_in h)
     else (if nat_eq n 2 then short Andi (high_in h) (high_in h) 0 (immediate_in h)
     else short (registers_of (bits_at h 12 1) (bits_at h 5 2)) (high_in h) (high_in h) (low_in h) 0))
 
-abbrev pub quadrant_1 : ℕ → ℕ → Instruction
+unfoldable pub quadrant_1 : ℕ → ℕ → Instruction
 quadrant_1 h n =
     if nat_eq n 0 then short Addi (rd_in h) (rd_in h) 0 (immediate_in h)
     else (if nat_eq n 1 then unless_reserved (nat_eq (rd_in h) 0) (short Addiw (rd_in h) (rd_in h) 0 (immediate_in h))
@@ -121,12 +121,12 @@ quadrant_1 h n =
     else short Bne 0 (high_in h) 0 (branch_offset h)))))))
 
 -- table 16.7, quadrant 2. C.JR and C.MV, and then C.EBREAK, C.JALR and C.ADD
-abbrev pub move_of : ℕ → ℕ → ℕ → Instruction
+unfoldable pub move_of : ℕ → ℕ → ℕ → Instruction
 move_of rd rs2 adds =
     if nat_eq adds 0 then (if nat_eq rs2 0 then unless_reserved (nat_eq rd 0) (short Jalr 0 rd 0 0) else short Add rd 0 rs2 0)
     else (if nat_eq rs2 0 then (if nat_eq rd 0 then short Ebreak 0 0 0 0 else short Jalr 1 rd 0 0) else short Add rd rd rs2 0)
 
-abbrev pub quadrant_2 : ℕ → ℕ → Instruction
+unfoldable pub quadrant_2 : ℕ → ℕ → Instruction
 quadrant_2 h n =
     if nat_eq n 0 then short Slli (rd_in h) (rd_in h) 0 (amount_in h)
     else (if nat_eq n 2 then unless_reserved (nat_eq (rd_in h) 0) (short Lw (rd_in h) 2 0 (lwsp_offset h))

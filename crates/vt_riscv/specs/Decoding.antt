@@ -42,26 +42,26 @@ abbrev pub j_immediate : ℕ → ℕ
 j_immediate w = by_sign (funct7_of w / 2 ^ 6 * 2 ^ 20 + w / 2 ^ 12 % 2 ^ 8 * 2 ^ 12 + w / 2 ^ 20 % 2 * 2 ^ 11 + w / 2 ^ 21 % 2 ^ 10 * 2) (2 ^ 20)
 
 -- an instruction of each format
-abbrev pub r_type : Operation → ℕ → Instruction
+unfoldable pub r_type : Operation → ℕ → Instruction
 r_type o w = record { operation = o; destination = rd_of w; first = rs1_of w; second = rs2_of w; length = 4; immediate = 0 }
 
-abbrev pub i_type : Operation → ℕ → Instruction
+unfoldable pub i_type : Operation → ℕ → Instruction
 i_type o w = record { operation = o; destination = rd_of w; first = rs1_of w; second = 0; length = 4; immediate = i_immediate w }
 
-abbrev pub s_type : Operation → ℕ → Instruction
+unfoldable pub s_type : Operation → ℕ → Instruction
 s_type o w = record { operation = o; destination = 0; first = rs1_of w; second = rs2_of w; length = 4; immediate = s_immediate w }
 
-abbrev pub b_type : Operation → ℕ → Instruction
+unfoldable pub b_type : Operation → ℕ → Instruction
 b_type o w = record { operation = o; destination = 0; first = rs1_of w; second = rs2_of w; length = 4; immediate = b_immediate w }
 
-abbrev pub u_type : Operation → ℕ → Instruction
+unfoldable pub u_type : Operation → ℕ → Instruction
 u_type o w = record { operation = o; destination = rd_of w; first = 0; second = 0; length = 4; immediate = u_immediate w }
 
-abbrev pub j_type : Operation → ℕ → Instruction
+unfoldable pub j_type : Operation → ℕ → Instruction
 j_type o w = record { operation = o; destination = rd_of w; first = 0; second = 0; length = 4; immediate = j_immediate w }
 
 -- a shift by so many bits, and an instruction without fields
-abbrev pub shift_type : Operation → ℕ → ℕ → Instruction
+unfoldable pub shift_type : Operation → ℕ → ℕ → Instruction
 shift_type o w amount = record { operation = o; destination = rd_of w; first = rs1_of w; second = 0; length = 4; immediate = amount }
 
 abbrev pub plain : Operation → Instruction
@@ -80,7 +80,7 @@ abbrev pub store_of : ℕ → Operation
 store_of n = if nat_eq n 0 then Sb else (if nat_eq n 1 then Sh else (if nat_eq n 2 then Sw else (if nat_eq n 3 then Sd else Bad)))
 
 -- OP-IMM, of which SLLI, SRLI and SRAI have a shift amount of six bits below the upper six
-abbrev pub op_imm_of : ℕ → ℕ → Instruction
+unfoldable pub op_imm_of : ℕ → ℕ → Instruction
 op_imm_of w n =
     if nat_eq n 0 then i_type Addi w
     else (if nat_eq n 1 then shift_type (if nat_eq (w / 2 ^ 26) 0 then Slli else Bad) w (w / 2 ^ 20 % 64)
@@ -92,7 +92,7 @@ op_imm_of w n =
     else i_type Andi w))))))
 
 -- OP-IMM-32, whose shift amounts have five bits below the upper seven
-abbrev pub op_imm_32_of : ℕ → ℕ → Instruction
+unfoldable pub op_imm_32_of : ℕ → ℕ → Instruction
 op_imm_32_of w n =
     if nat_eq n 0 then i_type Addiw w
     else (if nat_eq n 1 then shift_type (if nat_eq (funct7_of w) 0 then Slliw else Bad) w (rs2_of w)
@@ -111,7 +111,7 @@ abbrev pub op_mul_of : ℕ → Operation
 op_mul_of n =
     if nat_eq n 0 then Mul else (if nat_eq n 1 then Mulh else (if nat_eq n 2 then Mulhsu else (if nat_eq n 3 then Mulhu else (if nat_eq n 4 then Div else (if nat_eq n 5 then Divu else (if nat_eq n 6 then Rem else Remu))))))
 
-abbrev pub op_of : ℕ → ℕ → Operation
+unfoldable pub op_of : ℕ → ℕ → Operation
 op_of funct7 n = if nat_eq funct7 0 then op_base_of n else (if nat_eq funct7 32 then op_other_of n else (if nat_eq funct7 1 then op_mul_of n else Bad))
 
 -- OP-32
@@ -125,7 +125,7 @@ abbrev pub op_32_mul_of : ℕ → Operation
 op_32_mul_of n =
     if nat_eq n 0 then Mulw else (if nat_eq n 4 then Divw else (if nat_eq n 5 then Divuw else (if nat_eq n 6 then Remw else (if nat_eq n 7 then Remuw else Bad))))
 
-abbrev pub op_32_of : ℕ → ℕ → Operation
+unfoldable pub op_32_of : ℕ → ℕ → Operation
 op_32_of funct7 n = if nat_eq funct7 0 then op_32_base_of n else (if nat_eq funct7 32 then op_32_other_of n else (if nat_eq funct7 1 then op_32_mul_of n else Bad))
 
 -- JALR has funct3 0. FENCE is 0 and FENCE.I 1, of which the other fields are ignored (2.7 Memory Ordering Instructions, 3 Zifencei)

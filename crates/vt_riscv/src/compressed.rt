@@ -33,36 +33,42 @@ fn low(h: u32) -> u8
 }
 
 // Offsets of loads and stores.
+#[tactic(auto, unfolding(crate::specs::Compressed::lwsp_offset))]
 fn lwsp_offset(h: u32) -> u64
     ensures { result ≡ lwsp_offset h }
 {
     u64::from(h / 0x1000 % 0x2 * 0x20 + h / 0x10 % 0x8 * 0x4 + h / 0x4 % 0x4 * 0x40)
 }
 
+#[tactic(auto, unfolding(crate::specs::Compressed::ldsp_offset))]
 fn ldsp_offset(h: u32) -> u64
     ensures { result ≡ ldsp_offset h }
 {
     u64::from(h / 0x1000 % 0x2 * 0x20 + h / 0x20 % 0x4 * 0x8 + h / 0x4 % 0x8 * 0x40)
 }
 
+#[tactic(auto, unfolding(crate::specs::Compressed::swsp_offset))]
 fn swsp_offset(h: u32) -> u64
     ensures { result ≡ swsp_offset h }
 {
     u64::from(h / 0x200 % 0x10 * 0x4 + h / 0x80 % 0x4 * 0x40)
 }
 
+#[tactic(auto, unfolding(crate::specs::Compressed::sdsp_offset))]
 fn sdsp_offset(h: u32) -> u64
     ensures { result ≡ sdsp_offset h }
 {
     u64::from(h / 0x400 % 0x8 * 0x8 + h / 0x80 % 0x8 * 0x40)
 }
 
+#[tactic(auto, unfolding(crate::specs::Compressed::word_offset))]
 fn word_offset(h: u32) -> u64
     ensures { result ≡ word_offset h }
 {
     u64::from(h / 0x400 % 0x8 * 0x8 + h / 0x40 % 0x2 * 0x4 + h / 0x20 % 0x2 * 0x40)
 }
 
+#[tactic(auto, unfolding(crate::specs::Compressed::double_offset))]
 fn double_offset(h: u32) -> u64
     ensures { result ≡ double_offset h }
 {
@@ -70,6 +76,7 @@ fn double_offset(h: u32) -> u64
 }
 
 // How far jumps and branches lead.
+#[tactic(auto, unfolding(crate::specs::Compressed::jump_offset))]
 fn jump_offset(h: u32) -> u64
     ensures { result ≡ jump_offset h }
 {
@@ -84,6 +91,7 @@ fn jump_offset(h: u32) -> u64
     by_sign(x, 0x800)
 }
 
+#[tactic(auto, unfolding(crate::specs::Compressed::branch_offset))]
 fn branch_offset(h: u32) -> u64
     ensures { result ≡ branch_offset h }
 {
@@ -115,6 +123,7 @@ fn upper_immediate(h: u32) -> u64
     by_sign(amount(h) * 0x1000, 0x2_0000)
 }
 
+#[tactic(auto, unfolding(crate::specs::Compressed::addi16sp_immediate))]
 fn addi16sp_immediate(h: u32) -> u64
     ensures { result ≡ addi16sp_immediate h }
 {
@@ -126,6 +135,7 @@ fn addi16sp_immediate(h: u32) -> u64
     by_sign(x, 0x200)
 }
 
+#[tactic(auto, unfolding(crate::specs::Compressed::addi4spn_immediate))]
 fn addi4spn_immediate(h: u32) -> u64
     ensures { result ≡ addi4spn_immediate h }
 {
@@ -174,6 +184,7 @@ fn unless_reserved(reserved: bool, instruction: Instruction) -> Instruction
     }
 }
 
+#[tactic(auto, unfolding(crate::specs::Compressed::quadrant_0))]
 fn quadrant_0(h: u32, n: u32) -> Instruction
     ensures { result ≡ quadrant_0 h n }
 {
@@ -191,6 +202,7 @@ fn quadrant_0(h: u32, n: u32) -> Instruction
 }
 
 // C.ADDI16SP and C.LUI.
+#[tactic(auto, unfolding(crate::specs::Compressed::upper_of))]
 fn upper(h: u32, rd: u8) -> Instruction
     ensures { result ≡ upper_of h rd }
 {
@@ -203,6 +215,7 @@ fn upper(h: u32, rd: u8) -> Instruction
 }
 
 // Of two registers.
+#[tactic(auto, unfolding(crate::specs::Compressed::registers_of))]
 fn registers(words: u32, n: u32) -> Operation
     ensures { result ≡ registers_of words n }
 {
@@ -222,6 +235,7 @@ fn registers(words: u32, n: u32) -> Operation
     }
 }
 
+#[tactic(auto, unfolding(crate::specs::Compressed::arithmetic_of))]
 fn arithmetic(h: u32, n: u32) -> Instruction
     ensures { result ≡ arithmetic_of h n }
 {
@@ -234,6 +248,7 @@ fn arithmetic(h: u32, n: u32) -> Instruction
     }
 }
 
+#[tactic(auto, unfolding(crate::specs::Compressed::quadrant_1))]
 fn quadrant_1(h: u32, n: u32) -> Instruction
     ensures { result ≡ quadrant_1 h n }
 {
@@ -251,6 +266,7 @@ fn quadrant_1(h: u32, n: u32) -> Instruction
 }
 
 // C.JR and C.MV, or C.EBREAK, C.JALR and C.ADD.
+#[tactic(auto, unfolding(crate::specs::Compressed::move_of))]
 fn move_or_jump(rd: u8, rs2: u8, adds: u32) -> Instruction
     ensures { result ≡ move_of rd rs2 adds }
 {
@@ -269,6 +285,7 @@ fn move_or_jump(rd: u8, rs2: u8, adds: u32) -> Instruction
     }
 }
 
+#[tactic(auto, unfolding(crate::specs::Compressed::quadrant_2))]
 fn quadrant_2(h: u32, n: u32) -> Instruction
     ensures { result ≡ quadrant_2 h n }
 {

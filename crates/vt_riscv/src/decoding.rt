@@ -36,6 +36,7 @@ fn rs2(w: u32) -> u8
     (w / 0x10_0000 % 32) as u8
 }
 
+#[tactic(auto, unfolding(crate::specs::Decoding::r_type))]
 fn r_type(operation: Operation, w: u32) -> Instruction
     ensures { result ≡ r_type operation w }
 {
@@ -49,6 +50,7 @@ fn r_type(operation: Operation, w: u32) -> Instruction
     }
 }
 
+#[tactic(auto, unfolding(crate::specs::Decoding::i_type))]
 fn i_type(operation: Operation, w: u32) -> Instruction
     ensures { result ≡ i_type operation w }
 {
@@ -62,6 +64,7 @@ fn i_type(operation: Operation, w: u32) -> Instruction
     }
 }
 
+#[tactic(auto, unfolding(crate::specs::Decoding::s_type))]
 fn s_type(operation: Operation, w: u32) -> Instruction
     ensures { result ≡ s_type operation w }
 {
@@ -75,6 +78,7 @@ fn s_type(operation: Operation, w: u32) -> Instruction
     }
 }
 
+#[tactic(auto, unfolding(crate::specs::Decoding::b_type))]
 fn b_type(operation: Operation, w: u32) -> Instruction
     ensures { result ≡ b_type operation w }
 {
@@ -90,6 +94,7 @@ fn b_type(operation: Operation, w: u32) -> Instruction
     }
 }
 
+#[tactic(auto, unfolding(crate::specs::Decoding::u_type))]
 fn u_type(operation: Operation, w: u32) -> Instruction
     ensures { result ≡ u_type operation w }
 {
@@ -103,6 +108,7 @@ fn u_type(operation: Operation, w: u32) -> Instruction
     }
 }
 
+#[tactic(auto, unfolding(crate::specs::Decoding::j_type))]
 fn j_type(operation: Operation, w: u32) -> Instruction
     ensures { result ≡ j_type operation w }
 {
@@ -122,6 +128,7 @@ fn j_type(operation: Operation, w: u32) -> Instruction
 }
 
 // A shift by so many bits.
+#[tactic(auto, unfolding(crate::specs::Decoding::shift_type))]
 fn shift_type(operation: Operation, w: u32, amount: u32) -> Instruction
     ensures { result ≡ shift_type operation w amount }
 {
@@ -191,6 +198,7 @@ fn store(f3: u32) -> Operation
 }
 
 // OP-IMM.
+#[tactic(auto, unfolding(crate::specs::Decoding::op_imm_of))]
 fn op_imm(w: u32, f3: u32) -> Instruction
     ensures { result ≡ op_imm_of w f3 }
 {
@@ -221,6 +229,7 @@ fn op_imm(w: u32, f3: u32) -> Instruction
 }
 
 // OP-IMM-32.
+#[tactic(auto, unfolding(crate::specs::Decoding::op_imm_32_of))]
 fn op_imm_32(w: u32, f3: u32) -> Instruction
     ensures { result ≡ op_imm_32_of w f3 }
 {
@@ -287,6 +296,7 @@ fn op_mul(f3: u32) -> Operation
 }
 
 // OP.
+#[tactic(auto, unfolding(crate::specs::Decoding::op_of))]
 fn op(f7: u32, f3: u32) -> Operation
     ensures { result ≡ op_of f7 f3 }
 {
@@ -333,6 +343,7 @@ fn op_32_mul(f3: u32) -> Operation
 }
 
 // OP-32.
+#[tactic(auto, unfolding(crate::specs::Decoding::op_32_of))]
 fn op_32(f7: u32, f3: u32) -> Operation
     ensures { result ≡ op_32_of f7 f3 }
 {
