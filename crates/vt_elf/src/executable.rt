@@ -16,7 +16,7 @@ use crate::symbols::{Symbols, find_symbols, names_section, section_bytes};
 use std::alloc::Global;
 
 /// A static executable for 64-bit RISC-V, as it lies in a file.
-#[derive(Debug, Drop)]
+#[derive(Drop)]
 pub struct Executable {
     /// Whether instructions may be compressed.
     pub is_compressed: bool,
@@ -49,19 +49,30 @@ pub fn read_executable(alloc: Global, bytes: &[u8]) -> Result<Executable, Refusa
     ensures state_limit { IfOk result (λ executable. length executable.first_state.items ≤ MAX_STATE) }
 {
     check_header(bytes)?;
-    let found = read_segments(alloc, bytes)?;
+    let Ok(found) = read_segments(alloc, bytes) else {
+        return Err(Refusal::Memory);
+    };
     let segments = found.as_slice();
     check_segments(segments, bytes.len())?;
     let section = find_symbols(bytes)?;
     let code_end = reach(Region::Code, IMAGE, segments);
     let image_end = reach(Region::Constants, code_end, segments);
     let state_end = reach(Region::State, STATE, segments);
+    let Ok(image) = load(alloc, bytes, segments, IMAGE, (image_end - IMAGE) as usize) else {
+        return Err(Refusal::Memory);
+    };
+    let Ok(first_state) = load(alloc, bytes, segments, STATE, (state_end - STATE) as usize) else {
+        return Err(Refusal::Memory);
+    };
+    let Ok(symbols) = read_symbols(alloc, bytes, section) else {
+        return Err(Refusal::Memory);
+    };
     Ok(Executable {
         is_compressed: is_compressed(bytes),
-        image: load(alloc, bytes, segments, IMAGE, (image_end - IMAGE) as usize)?,
+        image,
         code_size: (code_end - IMAGE) as usize,
-        first_state: load(alloc, bytes, segments, STATE, (state_end - STATE) as usize)?,
-        symbols: read_symbols(alloc, bytes, section)?,
+        first_state,
+        symbols,
     })
 }
 

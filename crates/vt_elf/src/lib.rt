@@ -9,8 +9,6 @@ mod loading;
 mod refusal;
 mod segment;
 mod symbols;
-#[cfg(test)]
-mod tests;
 
 pub use executable::{Executable, read_executable};
 pub use refusal::Refusal;

@@ -34,7 +34,7 @@ pub struct Object {
 }
 
 /// The symbols of a file: its symbol table, and the names that the symbols point at. A look-up goes over the whole table.
-#[derive(Debug, Drop)]
+#[derive(Drop)]
 pub struct Symbols {
     /// The bytes of the section of type `SHT_SYMTAB`.
     pub table: Vec<u8>,

@@ -39,7 +39,7 @@ load-requires-2-clause-apart c =
 
 pub returns-clause-code_first : goal.returns-clause-code_first
 returns-clause-code_first c =
-    omega (arith, c.in_ok-load.ensures.size, c.reach-image_end.ensures, least_reach Constants c.reach-code_end.result c.as_slice-segments.result.now)
+    omega (arith, c.in-Ok-load.ensures.size, c.reach-image_end.ensures, least_reach Constants c.reach-code_end.result c.as_slice-segments.result.now)
 
 pub returns-clause-code_limit : goal.returns-clause-code_limit
 returns-clause-code_limit c =
@@ -50,10 +50,10 @@ pub returns-clause-image_limit : goal.returns-clause-image_limit
 returns-clause-image_limit c =
     let ss = c.as_slice-segments.result.now in
     let ends = image_ends (length c.args.bytes.now) ss (checked (length c.args.bytes.now) ss c.in_ok-check_segments.was c.check_segments.ensures) in
-    omega (arith, c.in_ok-load.ensures.size, c.reach-image_end.ensures ∙ ap (λ least. reach Constants least ss) c.reach-code_end.ensures, ends)
+    omega (arith, c.in-Ok-load.ensures.size, c.reach-image_end.ensures ∙ ap (λ least. reach Constants least ss) c.reach-code_end.ensures, ends)
 
 pub returns-clause-state_limit : goal.returns-clause-state_limit
 returns-clause-state_limit c =
     let ss = c.as_slice-segments.result.now in
     let ends = state_ends (length c.args.bytes.now) ss (checked (length c.args.bytes.now) ss c.in_ok-check_segments.was c.check_segments.ensures) in
-    omega (arith, c.in_ok-load-2.ensures.size, c.reach-state_end.ensures, ends)
+    omega (arith, c.in-Ok-load-2.ensures.size, c.reach-state_end.ensures, ends)
