@@ -12,7 +12,7 @@ use Rattle.vt_guest.specs.declared.calls.Host.{Host}
 use Rattle.vt_guest.specs.declared.calls.Handling.{Handling}
 use Rattle.vt_guest.specs.declared.calls.Next.{Next}
 use Rattle.vt_guest.specs.declared.calls.Next.TheVariants.{Draw}
-use Rattle.vt_guest.specs.Calls.{Turn, most_draws, most_sends, most_records, unless, trapped, register, answers, passed, draws, below_of, may_send, with_request, send_of, with_note, emit_of, lps_of, low, answered_by}
+use Rattle.vt_guest.specs.Calls.{Turn, most_draws, most_sends, most_records, unless, trapped, register, answers, passed, draws, below_of, may_send, with_request, send_of, with_note, emit_of, lps_of, call_of, low, answered_by}
 use Rattle.vt_guest.specs.Handling.{stopped, turn_of, draws_next, followed, handled, fails}
 
 module _ {N : ℕ} (code : Code) (h : Host) (words : ℕ → ℕ) where
@@ -52,6 +52,7 @@ module _ {N : ℕ} where
 
   chosen_keeps : (h : Host) (x : Handling N) (a b c d e f : Bool)
       → (if a then below_of x else (if b then draws x else (if c then send_of h x else (if d then emit_of h x else (if e then lps_of h x else (if f then answers x h.data_size else trapped BadCall x)))))).handling.drawn ≡ x.drawn
+  unfolding send_of emit_of lps_of
   chosen_keeps h x true b c d e f = unless_keeps (nat_eq (register x 10) 0 || nat_lt (2 ^ 32) (register x 10)) BadCall x (draws x) refl
   chosen_keeps h x false true c d e f = refl
   chosen_keeps h x false false true d e f =
@@ -65,6 +66,7 @@ module _ {N : ℕ} where
   chosen_keeps h x false false false false false false = refl
 
   stopped_keeps : (h : Host) (x : Handling N) (stop : Stop) → (stopped h x stop).handling.drawn ≡ x.drawn
+  unfolding call_of
   stopped_keeps h x stops.Called =
       let n = register x 17 in
       chosen_keeps h x (nat_eq n 0) (nat_eq n 1) (nat_eq n 2) (nat_eq n 3) (nat_eq n 4) (nat_eq n 5)

@@ -80,7 +80,7 @@ module _ {N : ℕ} where
   abbrev pub with_request : Handling N → Handling N
   with_request x = record x { sends = record { items = x.sends.items ++ request_of x ∷ [] } }
 
-  abbrev pub send_of : Host → Handling N → Turn N
+  unfoldable pub send_of : Host → Handling N → Turn N
   send_of h x = unless (not (may_send h x)) BadSend x (unless (nat_le (most_sends h.handler) (length x.sends.items)) TooMany x (passed (with_request x)))
 
   -- 3: emit(kind, value)
@@ -90,11 +90,11 @@ module _ {N : ℕ} where
   abbrev pub with_note : Handling N → Handling N
   with_note x = record x { notes = record { items = x.notes.items ++ note_of x ∷ [] } }
 
-  abbrev pub emit_of : Host → Handling N → Turn N
+  unfoldable pub emit_of : Host → Handling N → Turn N
   emit_of h x = unless (nat_eq (low (register x 10)) TRAP) BadCall x (unless (nat_le (most_records h.handler) (length x.notes.items)) TooMany x (passed (with_note x)))
 
   -- 4: lps(), which `finish` isn't told
-  abbrev pub lps_of : Host → Handling N → Turn N
+  unfoldable pub lps_of : Host → Handling N → Turn N
   lps_of h x = unless (nat_eq h.lps 0) BadCall x (answers x h.lps)
 
   -- the call of a number: 1 is word(), 5 is data_size()
@@ -108,7 +108,7 @@ module _ {N : ℕ} where
       else (if nat_eq n 5 then answers x h.data_size
       else trapped BadCall x)))))
 
-  abbrev pub call_of : Host → Handling N → Turn N
+  unfoldable pub call_of : Host → Handling N → Turn N
   call_of h x = call_numbered h x (register x 17)
 
   -- a word that was drawn is the answer of word(), and of below(n) the number below n that it gives

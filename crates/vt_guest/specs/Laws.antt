@@ -86,6 +86,7 @@ module _ {N : ℕ} (lps : ℕ) (now : Time) where
   }
 
   send_lawful : (h : Host) (x : Handling N) → h.lps ≡ lps → h.priority ≡ priority_of now → IsLawful x → IsLawful (send_of h x).handling
+  unfolding send_of
   send_lawful h x of at l =
       unless_lawful (not (may_send h x)) BadSend x (unless (nat_le (most_sends h.handler) (length x.sends.items)) TooMany x (passed (with_request x))) l
       (λ e. unless_lawful (nat_le (most_sends h.handler) (length x.sends.items)) TooMany x (passed (with_request x)) l
@@ -95,6 +96,7 @@ module _ {N : ℕ} (lps : ℕ) (now : Time) where
   with_note_lawful h x l room = record { words = l.words; sends = l.sends; records = simp length-append (omega (arith, room, records_few h.handler)); sendable = l.sendable }
 
   emit_lawful : (h : Host) (x : Handling N) → IsLawful x → IsLawful (emit_of h x).handling
+  unfolding emit_of
   emit_lawful h x l =
       unless_lawful (nat_eq (low (register x 10)) TRAP) BadCall x (unless (nat_le (most_records h.handler) (length x.notes.items)) TooMany x (passed (with_note x))) l
       (λ e. unless_lawful (nat_le (most_records h.handler) (length x.notes.items)) TooMany x (passed (with_note x)) l
@@ -104,6 +106,7 @@ module _ {N : ℕ} (lps : ℕ) (now : Time) where
   below_lawful x l = unless_lawful (nat_eq (register x 10) 0 || nat_lt (2 ^ 32) (register x 10)) BadCall x (draws x) l (λ _. l)
 
   lps_lawful : (h : Host) (x : Handling N) → IsLawful x → IsLawful (lps_of h x).handling
+  unfolding lps_of
   lps_lawful h x l = unless_lawful (nat_eq h.lps 0) BadCall x (answers x h.lps) l (λ _. answers_lawful x h.lps l)
 
   chosen_lawful : (h : Host) (x : Handling N) (a b c d e f : Bool) → h.lps ≡ lps → h.priority ≡ priority_of now → IsLawful x
@@ -117,6 +120,7 @@ module _ {N : ℕ} (lps : ℕ) (now : Time) where
   chosen_lawful h x false false false false false false of at l = l
 
   call_lawful : (h : Host) (x : Handling N) → h.lps ≡ lps → h.priority ≡ priority_of now → IsLawful x → IsLawful (call_of h x).handling
+  unfolding call_of
   call_lawful h x of at l =
       let n = register x 17 in
       chosen_lawful h x (nat_eq n 0) (nat_eq n 1) (nat_eq n 2) (nat_eq n 3) (nat_eq n 4) (nat_eq n 5) of at l

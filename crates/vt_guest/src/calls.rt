@@ -140,6 +140,7 @@ impl<const SIZE: usize> Handling<SIZE> {
     }
 
     // An event is sent.
+    #[tactic(auto, unfolding(crate::specs::Calls::send_of))]
     #[inline(always)]
     fn send(&mut self, host: Host) -> Next
         ensures next { result ≡ (send_of host self.old).next }
@@ -169,6 +170,7 @@ impl<const SIZE: usize> Handling<SIZE> {
     }
 
     // A record is made.
+    #[tactic(auto, unfolding(crate::specs::Calls::emit_of))]
     #[inline(always)]
     fn emit(&mut self, host: Host) -> Next
         ensures next { result ≡ (emit_of host self.old).next }
@@ -190,6 +192,7 @@ impl<const SIZE: usize> Handling<SIZE> {
     }
 
     // The number of processes is asked for.
+    #[tactic(auto, unfolding(crate::specs::Calls::lps_of))]
     #[inline(always)]
     fn lps(&mut self, host: Host) -> Next
         ensures next { result ≡ (lps_of host self.old).next }
@@ -203,6 +206,7 @@ impl<const SIZE: usize> Handling<SIZE> {
     }
 
     /// A call of the simulator, at which the machine stopped.
+    #[tactic(auto, unfolding(crate::specs::Calls::call_of))]
     #[inline(always)]
     pub fn call(&mut self, host: Host) -> Next
         ensures next { result ≡ (call_of host self.old).next }

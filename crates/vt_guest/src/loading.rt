@@ -10,7 +10,8 @@ ghost use Rattle.vt_guest.specs.declared.loading.Refusal.TheVariants.{Memory};
 
 use crate::guest::Program;
 use std::alloc::{AllocError, Global};
-use thiserror::Error;
+use std::error::Error;
+use std::fmt;
 use vt_elf::{Executable, Object, Symbols, read_executable};
 use vt_riscv::{Code, IMAGE, STATE};
 
@@ -36,50 +37,70 @@ pub struct Loaded {
 }
 
 /// Why an object can't be set or read.
-#[derive(Debug, Clone, Copy, PartialEq, Eq, Error)]
+#[derive(Debug, Clone, Copy, PartialEq, Eq)]
 pub enum ObjectFault {
     /// The program has no object of this name.
-    #[error("the program has no such object")]
     Unknown,
     /// It is no number of 4 or 8 bytes.
-    #[error("it has neither 4 nor 8 bytes")]
     OtherSize,
     /// It lies neither in the constants nor in the state.
-    #[error("it lies outside of constants and state")]
     Outside,
     /// It has 4 bytes, and the number needs more.
-    #[error("it has 4 bytes, and the number is 2^32 or more")]
     TooLarge,
 }
 
+impl fmt::Display for ObjectFault {
+    fn fmt<W: fmt::Write>(&self, f: &mut fmt::Formatter<W>) -> fmt::Result {
+        let text = match self {
+            ObjectFault::Unknown => "the program has no such object",
+            ObjectFault::OtherSize => "it has neither 4 nor 8 bytes",
+            ObjectFault::Outside => "it lies outside of constants and state",
+            ObjectFault::TooLarge => "it has 4 bytes, and the number is 2^32 or more",
+        };
+        f.write_str(text)
+    }
+}
+
+impl Error for ObjectFault {}
+
 /// Why there is no program.
-#[derive(Debug, Drop, Error)]
+#[derive(Debug, Drop)]
 pub enum Refusal {
     /// The file is no executable that can be taken.
-    #[error("{0}")]
     Executable(vt_elf::Refusal),
     /// The data file has more than [`MAX_DATA`] bytes.
-    #[error("the data file has more than 16 MiB")]
     LargeData,
     /// The program has no function `start`.
-    #[error("it has no function named start")]
     NoStart,
     /// The program has no function `forward`.
-    #[error("it has no function named forward")]
     NoForward,
     /// The program has no function `finish`.
-    #[error("it has no function named finish")]
     NoFinish,
     /// An object can't be set.
-    #[error("{0} can't be set: {1}")]
     Set(String, ObjectFault),
     /// The number of processes can't be read.
-    #[error("processes can't be read: {0}")]
     Processes(ObjectFault),
     /// The machine refused memory.
-    #[error("there is too little memory for it")]
     Memory,
 }
+
+impl fmt::Display for Refusal {
+    fn fmt<W: fmt::Write>(&self, f: &mut fmt::Formatter<W>) -> fmt::Result {
+        let text = match self {
+            Refusal::Executable(refusal) => return write!(f, "{refusal}"),
+            Refusal::Set(name, fault) => return write!(f, "{name} can't be set: {fault}"),
+            Refusal::Processes(fault) => return write!(f, "processes can't be read: {fault}"),
+            Refusal::LargeData => "the data file has more than 16 MiB",
+            Refusal::NoStart => "it has no function named start",
+            Refusal::NoForward => "it has no function named forward",
+            Refusal::NoFinish => "it has no function named finish",
+            Refusal::Memory => "there is too little memory for it",
+        };
+        f.write_str(text)
+    }
+}
+
+impl Error for Refusal {}
 
 impl From<AllocError> for Refusal {
     ghost from_gives = { λ _ refusal. refusal ≡ Memory };
@@ -268,7 +289,9 @@ fn assemble(
     let entries = find_entries(&symbols)?;
     set_all(&symbols, sets, &mut image, &mut first_state)?;
     let processes = find_processes(&symbols, &image, &first_state)?;
-    let code = Code::new(alloc, image, code_size, input, is_compressed)?;
+    let Ok(code) = Code::new(alloc, image, code_size, input, is_compressed) else {
+        return Err(Refusal::Memory);
+    };
     let Entries {
         start,
         forward,
