@@ -197,7 +197,7 @@ impl<const N: usize> Machine<N> {
         Go::To(to)
     }
 
-    // An instruction, if it is one of the usual ones and can be done.
+    // An instruction, if it can be done. A size has an arm of its own, so that the machine's code for it knows the size.
     #[inline(always)]
     fn exec_ready(&mut self, code: &Code, heads: &[Head], targets: &[u32], here: Here) -> Go
         requires within { here.at < length heads.now }
@@ -220,9 +220,42 @@ impl<const N: usize> Machine<N> {
             Effect::Jump => self.link_ready(code, heads, targets, here),
             Effect::JumpTo => self.jump_ready(code, heads, here, x),
             Effect::Branch(taken) => self.branch_ready(code, heads, targets, here, taken),
-            Effect::Load(size) => self.load_ready(code, heads, here, x, size),
-            Effect::LoadSigned(size) => self.load_signed_ready(code, heads, here, x, size),
-            Effect::Store(size) => self.store_ready(heads, here, x, y, size),
+            Effect::Load(Size::Byte) => self.load_ready(code, heads, here, x, Size::Byte),
+            Effect::Load(Size::Half) => self.load_ready(code, heads, here, x, Size::Half),
+            Effect::Load(Size::Word) => self.load_ready(code, heads, here, x, Size::Word),
+            Effect::Load(Size::Double) => self.load_ready(code, heads, here, x, Size::Double),
+            Effect::LoadSigned(Size::Byte) => self.load_signed_ready(
+                code,
+                heads,
+                here,
+                x,
+                Size::Byte,
+            ),
+            Effect::LoadSigned(Size::Half) => self.load_signed_ready(
+                code,
+                heads,
+                here,
+                x,
+                Size::Half,
+            ),
+            Effect::LoadSigned(Size::Word) => self.load_signed_ready(
+                code,
+                heads,
+                here,
+                x,
+                Size::Word,
+            ),
+            Effect::LoadSigned(Size::Double) => self.load_signed_ready(
+                code,
+                heads,
+                here,
+                x,
+                Size::Double,
+            ),
+            Effect::Store(Size::Byte) => self.store_ready(heads, here, x, y, Size::Byte),
+            Effect::Store(Size::Half) => self.store_ready(heads, here, x, y, Size::Half),
+            Effect::Store(Size::Word) => self.store_ready(heads, here, x, y, Size::Word),
+            Effect::Store(Size::Double) => self.store_ready(heads, here, x, y, Size::Double),
             Effect::Call => Go::Called,
             Effect::Pass => Go::Next,
             Effect::Fail(_) => Go::Not,
