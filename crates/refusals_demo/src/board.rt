@@ -1,8 +1,7 @@
 //! The board alone: cuts, reports and what is announced.
 
-use crate::playing::{
-    Pages, Player, index, number, play_all, tell, tell_refusal, tell_word, tick, word,
-};
+use crate::page::Page;
+use crate::playing::{Pages, Player, index, number, play_all, tick, word};
 use std::alloc::Global;
 use std::io;
 use vt_board::{Board, Report};
@@ -15,42 +14,43 @@ struct Rounds {
 }
 
 impl Rounds {
-    fn cut(&mut self, w: u32, text: &mut Vec<u8>) -> io::Result<()> {
+    fn cut(&mut self, w: u32, page: &mut Page) {
         match self.board.cut(w) {
-            Ok(time) => tell(text, &[time.ticks()]),
-            Err(fault) => tell_refusal(text, fault),
+            Ok(time) => page.number(time.ticks()),
+            Err(fault) => page.refusal(fault),
         }
     }
 
-    fn report(&mut self, line: &str, text: &mut Vec<u8>) -> io::Result<()> {
+    fn report(&mut self, line: &str, page: &mut Page) {
         let (w, sent, got) = (index(line, 1), number(line, 2), number(line, 3));
         match self.board.report(w, sent, got, tick(line, 4)) {
-            Ok(report) => tell_report(report, text),
-            Err(fault) => tell_refusal(text, fault),
+            Ok(report) => tell_report(report, page),
+            Err(fault) => page.refusal(fault),
         }
     }
 }
 
-fn tell_report(report: Report, text: &mut Vec<u8>) -> io::Result<()> {
+/// Tells what came of a report.
+pub(crate) fn tell_report(report: Report, page: &mut Page) {
     match report {
-        Report::Waiting => tell_word(text, "waiting"),
-        Report::Again => tell_word(text, "again"),
-        Report::Announced(time) => tell(text, &[time.ticks()]),
+        Report::Waiting => page.word("waiting"),
+        Report::Again => page.word("again"),
+        Report::Announced(time) => page.number(time.ticks()),
     }
 }
 
 impl Player for Rounds {
-    fn play(&mut self, _alloc: Global, line: &str, text: &mut Vec<u8>) -> io::Result<()> {
+    fn play(&mut self, alloc: Global, line: &str, page: &mut Page) {
         match word(line, 0) {
-            "cut" => self.cut(index(line, 1), text),
-            "report" => self.report(line, text),
-            "announced" => self.tell_all(text),
-            _ => tell_word(text, "unknown"),
+            "cut" => self.cut(index(line, 1), page),
+            "report" => self.report(line, page),
+            "announced" => self.tell_all(alloc, page),
+            _ => page.word("unknown"),
         }
     }
 
-    fn tell_all(&self, text: &mut Vec<u8>) -> io::Result<()> {
-        tell(text, &[self.board.announced().ticks()])
+    fn tell_all(&mut self, _alloc: Global, page: &mut Page) {
+        page.number(self.board.announced().ticks());
     }
 }
 

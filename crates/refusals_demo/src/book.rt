@@ -1,8 +1,7 @@
 //! The book alone: rows that are handed in, one by one and in batches.
 
-use crate::playing::{
-    Pages, Player, index, number, play_all, tell, tell_call, tell_refusal, tell_word, tick, word,
-};
+use crate::page::Page;
+use crate::playing::{Pages, Player, index, number, play_all, tick, word};
 use std::alloc::Global;
 use std::io;
 use vt_book::{Batch, Book};
@@ -41,12 +40,21 @@ fn count_ticks(line: &str) -> usize {
 }
 
 impl Clerk {
-    fn hand(&mut self, alloc: Global, w: u32, rows: &[Row], floor: When) -> Result<(), Fault> {
+    fn hand(&mut self, w: u32, rows: &[Row], floor: When) -> Result<(), Fault> {
+        self.book.hand(w, rows, floor)
+    }
+
+    fn hand_batch(&mut self, w: u32, batch: Batch, floor: When) -> Result<(), Fault> {
+        self.book.hand_batch(w, batch, floor)
+    }
+
+    fn hand_rows(&mut self, alloc: Global, line: &str, rows: &[Row]) -> Result<(), Fault> {
+        let (w, floor) = (index(line, 1), tick(line, 2));
         if !self.in_batches {
-            return self.book.hand(w, rows, floor);
+            return self.hand(w, rows, floor);
         }
         match Batch::new(alloc, rows) {
-            Ok(batch) => self.book.hand_batch(w, batch, floor),
+            Ok(batch) => self.hand_batch(w, batch, floor),
             Err(fault) => Err(fault),
         }
     }
@@ -56,45 +64,51 @@ impl Clerk {
         let (rows, _) = both
             .split_at_checked(count_ticks(line))
             .unwrap_or((&[], &[]));
-        self.hand(alloc, index(line, 1), rows, tick(line, 2))
+        self.hand_rows(alloc, line, rows)
     }
 
-    fn tell_records(&self, alloc: Global, text: &mut Vec<u8>) -> io::Result<()> {
-        match self.book.records(alloc) {
-            Ok(records) => tell_ticks(text, &records),
-            Err(fault) => tell_refusal(text, fault),
-        }
+    fn close(&mut self) -> Result<(), Fault> {
+        self.book.close()
     }
-}
 
-fn tell_ticks(text: &mut Vec<u8>, records: &[Record]) -> io::Result<()> {
-    for record in records {
-        tell(text, &[record.time])?;
-    }
-    Ok(())
-}
-
-impl Player for Clerk {
-    fn play(&mut self, alloc: Global, line: &str, text: &mut Vec<u8>) -> io::Result<()> {
-        match word(line, 0) {
-            "hand" => tell_call(text, self.hand_line(alloc, line)),
-            "records" => self.tell_records(alloc, text),
-            "close" => tell_call(text, self.book.close()),
-            "floor" => self.tell_all(text),
-            _ => tell_word(text, "unknown"),
-        }
+    fn records(&self, alloc: Global) -> Result<Vec<Record>, Fault> {
+        self.book.records(alloc)
     }
 
     // Its floor, whether it is closed, and how many records were handed out.
-    fn tell_all(&self, text: &mut Vec<u8>) -> io::Result<()> {
-        tell(
-            text,
-            &[
-                self.book.floor().ticks(),
-                self.book.is_closed() as u64,
-                self.book.handed_out() as u64,
-            ],
-        )
+    fn numbers(&self) -> [u64; 3] {
+        [
+            self.book.floor().ticks(),
+            self.book.is_closed() as u64,
+            self.book.handed_out() as u64,
+        ]
+    }
+}
+
+fn tell_ticks(given: Result<Vec<Record>, Fault>, page: &mut Page) {
+    match given {
+        Ok(records) => {
+            for record in &records {
+                page.number(record.time);
+            }
+        }
+        Err(fault) => page.refusal(fault),
+    }
+}
+
+impl Player for Clerk {
+    fn play(&mut self, alloc: Global, line: &str, page: &mut Page) {
+        match word(line, 0) {
+            "hand" => page.answer(self.hand_line(alloc, line)),
+            "records" => tell_ticks(self.records(alloc), page),
+            "close" => page.answer(self.close()),
+            "floor" => page.numbers(&self.numbers()),
+            _ => page.word("unknown"),
+        }
+    }
+
+    fn tell_all(&mut self, _alloc: Global, page: &mut Page) {
+        page.numbers(&self.numbers());
     }
 }
 

@@ -1,18 +1,57 @@
 //! How a text is played: a line for each call, and behind ` =` what it answers.
 
-use crate::calls::tell_refused;
+use crate::page::Page;
 use std::alloc::Global;
-use std::io::{self, Write};
-use std::str;
-use vt_key::{Fault, Letter, Rank, Sign, When};
+use std::io;
+use vt_key::{Fault, Stamp, When};
+use vt_model::Record;
 
 /// What the lines of a text are played on.
 pub(crate) trait Player {
     /// Makes the call that a line says, and tells what it answers.
-    fn play(&mut self, alloc: Global, line: &str, text: &mut Vec<u8>) -> io::Result<()>;
+    fn play(&mut self, alloc: Global, line: &str, page: &mut Page);
 
-    /// Tells all that its readers tell without memory.
-    fn tell_all(&self, text: &mut Vec<u8>) -> io::Result<()>;
+    /// Tells all that its readers tell. A reader that is refused for memory is asked once more.
+    fn tell_all(&mut self, alloc: Global, page: &mut Page);
+
+    /// Whether a call that was refused left all as it has to: what was told before and after it is the same.
+    fn is_kept(&mut self, _alloc: Global, _line: &str, pages: &Pages) -> bool {
+        pages.are_same()
+    }
+}
+
+/// How a player is made.
+pub(crate) trait Opening {
+    type Made: Player + Drop;
+
+    fn open(&self, alloc: Global) -> Result<Self::Made, Fault>;
+}
+
+/// What a line answered, and what the player told before and after a call that was refused.
+#[derive(Drop)]
+pub(crate) struct Pages {
+    answer: Page,
+    before: Page,
+    pub(crate) after: Page,
+}
+
+impl Pages {
+    pub(crate) fn new(alloc: Global) -> Pages {
+        Pages {
+            answer: Page::new(alloc),
+            before: Page::new(alloc),
+            after: Page::new(alloc),
+        }
+    }
+
+    /// Takes the memory, and answers whether it was there.
+    pub(crate) fn make_room(&mut self) -> bool {
+        self.answer.make_room() && self.before.make_room() && self.after.make_room()
+    }
+
+    pub(crate) fn are_same(&self) -> bool {
+        self.before.is_same(&self.after)
+    }
 }
 
 /// The word at this place of a line, or an empty one.
@@ -35,101 +74,53 @@ pub(crate) fn tick(line: &str, at: usize) -> When {
     When::tick(number(line, at))
 }
 
-pub(crate) fn tell_word(text: &mut Vec<u8>, word: &str) -> io::Result<()> {
-    write!(text, " {word}")
-}
-
-/// Tells these numbers, one after the other.
-pub(crate) fn tell(text: &mut Vec<u8>, numbers: &[u64]) -> io::Result<()> {
-    for number in numbers {
-        write!(text, " {number}")?;
-    }
-    Ok(())
-}
-
-/// Tells a number, if it is there.
-pub(crate) fn tell_some(text: &mut Vec<u8>, number: Option<u64>) -> io::Result<()> {
-    match number {
-        Some(number) => write!(text, " {number}"),
-        None => tell_word(text, "none"),
+/// The stamp of a worker and a serial from this place of a line on.
+pub(crate) fn stamp(line: &str, at: usize) -> Stamp {
+    Stamp {
+        worker: index(line, at),
+        serial: number(line, at.saturating_add(1)),
     }
 }
 
-/// Tells that a call was done, or the number of its refusal.
-pub(crate) fn tell_call(text: &mut Vec<u8>, answer: Result<(), Fault>) -> io::Result<()> {
-    match answer {
-        Ok(()) => tell_word(text, "ok"),
-        Err(fault) => tell_refusal(text, fault),
-    }
-}
-
-/// Tells the number of a refusal.
-pub(crate) fn tell_refusal(text: &mut Vec<u8>, fault: Fault) -> io::Result<()> {
-    write!(text, " refused {}", fault.number())
-}
-
-/// Tells a rank: its tick, source and send number, and its worker and serial.
-pub(crate) fn tell_rank(text: &mut Vec<u8>, rank: Rank) -> io::Result<()> {
-    let Rank { key, stamp } = rank;
-    let (tick, source, number) = (key.when().ticks(), key.source(), key.number());
-    write!(
-        text,
-        "({tick},{source},{number})({},{})",
-        stamp.worker, stamp.serial
-    )
-}
-
-/// Tells a letter: its sign and its rank.
-pub(crate) fn tell_letter<P: Copy>(text: &mut Vec<u8>, letter: &Letter<P>) -> io::Result<()> {
-    let sign = match letter.sign {
-        Sign::Plus => "+",
-        Sign::Minus => "-",
-    };
-    tell_word(text, sign)?;
-    tell_rank(text, letter.event.rank)
-}
-
-/// What a line answered, and what the player told before and after a call that was refused. Their memory is taken before any call is made, so
-/// that telling takes none.
-#[derive(Drop)]
-pub(crate) struct Pages {
-    answer: Vec<u8>,
-    before: Vec<u8>,
-    after: Vec<u8>,
-}
-
-// What is told at once has fewer bytes.
-const ROOM: usize = 1024;
-
-impl Pages {
-    pub(crate) fn new(alloc: Global) -> io::Result<Pages> {
-        Ok(Pages {
-            answer: Vec::with_capacity(alloc, ROOM)?,
-            before: Vec::with_capacity(alloc, ROOM)?,
-            after: Vec::with_capacity(alloc, ROOM)?,
-        })
-    }
-}
-
-fn tell_page<P: Player>(player: &P, page: &mut Vec<u8>) -> io::Result<()> {
+fn tell_page<P: Player>(alloc: Global, player: &mut P, page: &mut Page) {
     page.clear();
-    player.tell_all(page)
+    player.tell_all(alloc, page);
 }
 
-fn play_onto<P: Player>(
-    alloc: Global,
-    player: &mut P,
-    line: &str,
-    page: &mut Vec<u8>,
-) -> io::Result<()> {
+fn play_onto<P: Player>(alloc: Global, player: &mut P, line: &str, page: &mut Page) {
     page.clear();
-    player.play(alloc, line, page)
+    player.play(alloc, line, page);
 }
 
-/// Prints a line and what it answered.
-pub(crate) fn print_answer(rt: &HostRuntime, line: &str, answer: &[u8]) -> io::Result<()> {
-    let answer = str::from_utf8(answer).unwrap_or(" WRONG");
+fn print_line(rt: &HostRuntime, name: &str, what: &str) -> io::Result<()> {
+    println!(rt; "{name} {what}")
+}
+
+fn print_answer(rt: &HostRuntime, line: &str, answer: &Page) -> io::Result<()> {
+    let answer = answer.text();
     println!(rt; "{line} ={answer}")
+}
+
+/// Prints the records that a call gave.
+pub(crate) fn print_records(
+    rt: &HostRuntime,
+    pages: &mut Pages,
+    name: &str,
+    given: Result<Vec<Record>, Fault>,
+) -> io::Result<()> {
+    pages.answer.clear();
+    pages.answer.records_given(given);
+    print_answer(rt, name, &pages.answer)
+}
+
+/// Prints that a call was refused for memory, and whether all was as before.
+pub(crate) fn print_refused(rt: &HostRuntime, name: &str, is_kept: bool) -> io::Result<()> {
+    let what = if is_kept {
+        "refused and kept"
+    } else {
+        "refused and CHANGED"
+    };
+    print_line(rt, name, what)
 }
 
 // Plays a line, and prints its answer. Where it is refused for memory, a line tells whether all was as before, and the call is made again.
@@ -139,12 +130,12 @@ fn play_line<P: Player>(
     pages: &mut Pages,
     line: &str,
 ) -> io::Result<()> {
-    tell_page(player, &mut pages.before)?;
-    play_onto(rt.alloc(), player, line, &mut pages.answer)?;
-    if pages.answer.as_slice() == b" refused 1".as_slice() {
-        tell_page(player, &mut pages.after)?;
-        tell_refused(rt, line, pages.before.as_slice() == pages.after.as_slice())?;
-        play_onto(rt.alloc(), player, line, &mut pages.answer)?;
+    tell_page(rt.alloc(), player, &mut pages.before);
+    play_onto(rt.alloc(), player, line, &mut pages.answer);
+    if pages.answer.is_refused() {
+        tell_page(rt.alloc(), player, &mut pages.after);
+        print_refused(rt, line, player.is_kept(rt.alloc(), line, pages))?;
+        play_onto(rt.alloc(), player, line, &mut pages.answer);
     }
     print_answer(rt, line, &pages.answer)
 }
@@ -160,4 +151,39 @@ pub(crate) fn play_all<P: Player>(
         play_line(rt, player, pages, line)?;
     }
     Ok(())
+}
+
+/// Prints what came of making a player.
+pub(crate) fn print_made(rt: &HostRuntime, name: &str, made: Result<(), Fault>) -> io::Result<()> {
+    match made {
+        Ok(()) => print_line(rt, name, "ok"),
+        Err(fault) => println!(rt; "{name} refused {}", fault.number()),
+    }
+}
+
+/// Whether a call was refused for memory.
+pub(crate) fn is_refused<T>(answer: &Result<T, Fault>) -> bool {
+    matches!(answer, Err(Fault::Memory))
+}
+
+/// Makes a player by the call of this name, and once more where it is refused for memory. Then it plays the lines of a text.
+pub(crate) fn play_new<O: Opening>(
+    rt: &HostRuntime,
+    pages: &mut Pages,
+    name: &str,
+    opening: &O,
+    lines: &str,
+) -> io::Result<()> {
+    let mut made = opening.open(rt.alloc());
+    if is_refused(&made) {
+        print_refused(rt, name, true)?;
+        made = opening.open(rt.alloc());
+    }
+    match made {
+        Ok(mut player) => {
+            print_made(rt, name, Ok(()))?;
+            play_all(rt, &mut player, pages, lines)
+        }
+        Err(fault) => print_made(rt, name, Err(fault)),
+    }
 }

@@ -2,12 +2,9 @@
 
 ghost use Rattle.std.specs.Prelude.{◌≡◌};
 
-use crate::calls::{is_refused, tell_made, tell_refused};
 use crate::counting::Counting;
-use crate::playing::{
-    Pages, Player, index, number, play_all, tell, tell_call, tell_letter, tell_rank, tell_refusal,
-    tell_word, tick, word,
-};
+use crate::page::Page;
+use crate::playing::{Opening, Pages, Player, index, number, play_new, stamp, tick, word};
 use std::alloc::Global;
 use std::io;
 use vt_key::{Event, Fault, Key, Letter, Rank, Sign, Stamp};
@@ -17,11 +14,11 @@ use vt_model::{Config, Model as EventModel, Row};
 use vt_models::{Hop, JobEvent, Server, Stations, Token};
 
 /// A model whose payloads and states have words.
-trait Spoken: EventModel + Drop {
+trait Spoken: EventModel + Copy + Drop {
     /// The payload that the words of a line from this place on say.
     fn payload(line: &str, at: usize) -> Self::Payload;
 
-    fn tell_state(text: &mut Vec<u8>, state: &Self::State) -> io::Result<()>;
+    fn tell_state(page: &mut Page, state: &Self::State);
 }
 
 impl Spoken for Hop {
@@ -32,8 +29,8 @@ impl Spoken for Hop {
         }
     }
 
-    fn tell_state(text: &mut Vec<u8>, state: &u64) -> io::Result<()> {
-        tell(text, &[*state])
+    fn tell_state(page: &mut Page, state: &u64) {
+        page.number(*state);
     }
 }
 
@@ -45,8 +42,8 @@ impl Spoken for Stations {
         }
     }
 
-    fn tell_state(text: &mut Vec<u8>, state: &Server) -> io::Result<()> {
-        tell(text, &[state.length, state.served])
+    fn tell_state(page: &mut Page, state: &Server) {
+        page.numbers(&[state.length, state.served]);
     }
 }
 
@@ -62,13 +59,6 @@ struct Desk<M: Spoken> {
     ghost same: { lp.config ≡ config },
 }
 
-fn stamp(line: &str, at: usize) -> Stamp {
-    Stamp {
-        worker: index(line, at),
-        serial: number(line, at.saturating_add(1)),
-    }
-}
-
 fn sign(line: &str) -> Sign {
     match word(line, 1) {
         "-" => Sign::Minus,
@@ -76,21 +66,29 @@ fn sign(line: &str) -> Sign {
     }
 }
 
+fn rank(line: &str) -> Rank {
+    Rank {
+        key: Key::new(tick(line, 2), index(line, 3), number(line, 4)),
+        stamp: stamp(line, 5),
+    }
+}
+
+fn parcel<P: Copy + Drop>(alloc: Global, letter: Letter<P>) -> Result<Parcel<Letter<P>>, Fault> {
+    match Parcel::new(alloc, letter) {
+        Ok(letter) => Ok(letter),
+        Err(_letter) => Err(Fault::Memory),
+    }
+}
+
 // The letter that a line says, for process 1: a sign, a key, a stamp and a payload.
-fn letter<M: Spoken>(alloc: Global, line: &str) -> Result<Parcel<Letter<M::Payload>>, Fault> {
+fn letter<M: Spoken>(line: &str) -> Letter<M::Payload> {
     let event = Event {
-        rank: Rank {
-            key: Key::new(tick(line, 2), index(line, 3), number(line, 4)),
-            stamp: stamp(line, 5),
-        },
+        rank: rank(line),
         dest: 1,
         payload: M::payload(line, 7),
     };
     let sign = sign(line);
-    match Parcel::new(alloc, Letter { event, sign }) {
-        Ok(letter) => Ok(letter),
-        Err(_letter) => Err(Fault::Memory),
-    }
+    Letter { event, sign }
 }
 
 impl<M: Spoken> Desk<M> {
@@ -109,33 +107,40 @@ impl<M: Spoken> Desk<M> {
         }
     }
 
-    // Accepts a letter, and tells the one that was handed back.
-    fn accept(&mut self, letter: Parcel<Letter<M::Payload>>, text: &mut Vec<u8>) -> io::Result<()> {
+    // Accepts a letter, or hands it back.
+    fn accept(
+        &mut self,
+        letter: Parcel<Letter<M::Payload>>,
+    ) -> Result<(), (Fault, Parcel<Letter<M::Payload>>)> {
         let Letter { event, .. } = *letter.get();
         if event.dest != 1 || event.rank.key.when() >= self.config.end() {
-            return tell_word(text, "foreign");
+            return Err((Fault::NotLawful, letter));
         }
-        match self.lp.accept(letter) {
-            Ok(()) => tell_word(text, "ok"),
+        self.lp.accept(letter)
+    }
+
+    fn tell_accepted(&mut self, letter: Parcel<Letter<M::Payload>>, page: &mut Page) {
+        match self.accept(letter) {
+            Ok(()) => page.word("ok"),
             Err((fault, letter)) => {
-                tell_refusal(text, fault)?;
-                tell_letter(text, letter.get())
+                page.refusal(fault);
+                page.letter(letter.get());
             }
         }
     }
 
-    fn accept_made(&mut self, alloc: Global, line: &str, text: &mut Vec<u8>) -> io::Result<()> {
-        match letter::<M>(alloc, line) {
-            Ok(letter) => self.accept(letter, text),
-            Err(fault) => tell_refusal(text, fault),
+    fn accept_made(&mut self, alloc: Global, line: &str, page: &mut Page) {
+        match parcel(alloc, letter::<M>(line)) {
+            Ok(letter) => self.tell_accepted(letter, page),
+            Err(fault) => page.refusal(fault),
         }
     }
 
     // The first letter of the outbox is accepted.
-    fn accept_own(&mut self, text: &mut Vec<u8>) -> io::Result<()> {
+    fn accept_own(&mut self, page: &mut Page) {
         match self.outbox.pop_front() {
-            Some(letter) => self.accept(letter, text),
-            None => tell_word(text, "none"),
+            Some(letter) => self.tell_accepted(letter, page),
+            None => page.word("none"),
         }
     }
 
@@ -152,102 +157,99 @@ impl<M: Spoken> Desk<M> {
         self.lp.cancel(stamp)
     }
 
-    // Its state, send number and place; then how many letters are past, pending and waiting.
-    fn tell_process(&self, text: &mut Vec<u8>) -> io::Result<()> {
-        M::tell_state(text, self.lp.state())?;
-        tell(text, &[self.lp.number(), self.lp.place()])?;
-        tell(
-            text,
-            &[
-                self.lp.past_len() as u64,
-                self.lp.pending_len() as u64,
-                self.lp.waiting_len() as u64,
-            ],
-        )
+    // Its send number and place; then how many letters are past, pending and waiting.
+    fn numbers(&self) -> [u64; 5] {
+        [
+            self.lp.number(),
+            self.lp.place(),
+            self.lp.past_len() as u64,
+            self.lp.pending_len() as u64,
+            self.lp.waiting_len() as u64,
+        ]
     }
 
-    fn tell_past(&self, alloc: Global, text: &mut Vec<u8>) -> io::Result<()> {
-        let past = match self.lp.past_events(alloc) {
-            Ok(past) => past,
-            Err(fault) => return tell_refusal(text, fault),
-        };
-        for event in past {
-            tell_word(text, "")?;
-            tell_rank(text, event.rank)?;
-        }
-        Ok(())
+    fn state(&self) -> &M::State {
+        self.lp.state()
     }
 
-    fn tell_outbox(&self, text: &mut Vec<u8>) -> io::Result<()> {
+    fn tell_process(&self, page: &mut Page) {
+        M::tell_state(page, self.state());
+        page.numbers(&self.numbers());
+    }
+
+    fn past(&self, alloc: Global) -> Result<Vec<Event<M::Payload>>, Fault> {
+        self.lp.past_events(alloc)
+    }
+
+    fn tell_outbox(&self, page: &mut Page) {
         for letter in self.outbox.iter() {
-            tell_letter(text, letter)?;
+            page.letter(letter);
         }
-        Ok(())
     }
 
-    // The records of its past events before a time: their ticks and values.
-    fn tell_ripe(&self, alloc: Global, line: &str, text: &mut Vec<u8>) -> io::Result<()> {
+    fn ripe(&self, line: &str, rows: &mut Vec<Row>) -> Result<(), Fault> {
+        self.lp.ripe(tick(line, 1), rows)
+    }
+
+    // The records of its past events before a time.
+    fn tell_ripe(&self, alloc: Global, line: &str, page: &mut Page) {
         let mut rows: Vec<Row> = Vec::new(alloc);
-        if let Err(fault) = self.lp.ripe(tick(line, 1), &mut rows) {
-            return tell_refusal(text, fault);
+        match self.ripe(line, &mut rows) {
+            Ok(()) => page.rows(&rows),
+            Err(fault) => page.refusal(fault),
         }
-        for row in &rows {
-            tell(text, &[row.rec.time, row.rec.value])?;
-        }
-        Ok(())
     }
 
     // Tells what a line asks of it.
-    fn look(&self, alloc: Global, line: &str, text: &mut Vec<u8>) -> io::Result<()> {
+    fn look(&self, alloc: Global, line: &str, page: &mut Page) {
         match word(line, 0) {
-            "process" => self.tell_process(text),
-            "outbox" => self.tell_outbox(text),
-            "past" => self.tell_past(alloc, text),
-            "ripe" => self.tell_ripe(alloc, line, text),
-            "serial" => tell(text, &[self.serial]),
-            "calls" => tell(text, &self.model.calls()),
-            _ => tell_word(text, "unknown"),
+            "process" => self.tell_process(page),
+            "outbox" => self.tell_outbox(page),
+            "past" => page.events(self.past(alloc)),
+            "ripe" => self.tell_ripe(alloc, line, page),
+            "serial" => page.number(self.serial),
+            "calls" => page.numbers(&self.model.calls()),
+            _ => page.word("unknown"),
         }
     }
 }
 
 impl<M: Spoken> Desk<M> {
-    // Makes the call that a line says, and tells what it answers.
-    fn play_line(&mut self, alloc: Global, line: &str, text: &mut Vec<u8>) -> io::Result<()> {
+    fn play_line(&mut self, alloc: Global, line: &str, page: &mut Page) {
         match word(line, 0) {
-            "execute" => tell_call(text, self.execute(alloc)),
-            "undo" => tell_call(text, self.undo()),
-            "cancel" => tell_call(text, self.cancel(stamp(line, 1))),
-            "accept" => self.accept_made(alloc, line, text),
-            "accept_own" => self.accept_own(text),
-            _ => self.look(alloc, line, text),
+            "execute" => page.answer(self.execute(alloc)),
+            "undo" => page.answer(self.undo()),
+            "cancel" => page.answer(self.cancel(stamp(line, 1))),
+            "accept" => self.accept_made(alloc, line, page),
+            "accept_own" => self.accept_own(page),
+            _ => self.look(alloc, line, page),
         }
     }
 
-    fn tell_desk(&self, text: &mut Vec<u8>) -> io::Result<()> {
-        self.tell_process(text)?;
-        tell(text, &[self.serial])?;
-        self.tell_outbox(text)
+    fn tell_desk(&self, page: &mut Page) {
+        self.tell_process(page);
+        page.number(self.serial);
+        self.tell_outbox(page);
     }
 }
 
 impl Player for Desk<Hop> {
-    fn play(&mut self, alloc: Global, line: &str, text: &mut Vec<u8>) -> io::Result<()> {
-        self.play_line(alloc, line, text)
+    fn play(&mut self, alloc: Global, line: &str, page: &mut Page) {
+        self.play_line(alloc, line, page);
     }
 
-    fn tell_all(&self, text: &mut Vec<u8>) -> io::Result<()> {
-        self.tell_desk(text)
+    fn tell_all(&mut self, _alloc: Global, page: &mut Page) {
+        self.tell_desk(page);
     }
 }
 
 impl Player for Desk<Stations> {
-    fn play(&mut self, alloc: Global, line: &str, text: &mut Vec<u8>) -> io::Result<()> {
-        self.play_line(alloc, line, text)
+    fn play(&mut self, alloc: Global, line: &str, page: &mut Page) {
+        self.play_line(alloc, line, page);
     }
 
-    fn tell_all(&self, text: &mut Vec<u8>) -> io::Result<()> {
-        self.tell_desk(text)
+    fn tell_all(&mut self, _alloc: Global, page: &mut Page) {
+        self.tell_desk(page);
     }
 }
 
@@ -331,46 +333,59 @@ execute";
 
 const NEW: &str = "Lp::new";
 
-fn hops(alloc: Global) -> Result<Desk<Hop>, Fault> {
-    Desk::new(alloc, Hop::new(1, 1, 1, 0)?, Config::new(2, 2, 10, 0)?)
+/// A process of a run of two processes on two workers.
+#[derive(Drop)]
+struct Process<M> {
+    model: M,
+    config: Config,
 }
 
-fn jobs(alloc: Global) -> Result<Desk<Stations>, Fault> {
-    Desk::new(alloc, Stations::new(0, 1, 1)?, Config::new(2, 2, 10, 0)?)
+impl Opening for Process<Hop> {
+    type Made = Desk<Hop>;
+
+    fn open(&self, alloc: Global) -> Result<Desk<Hop>, Fault> {
+        Desk::new(alloc, self.model, self.config)
+    }
 }
 
-// Plays a text on a process of the hop model.
-fn play_hops(rt: &HostRuntime, pages: &mut Pages, lines: &str) -> io::Result<()> {
-    let mut made = hops(rt.alloc());
-    if is_refused(&made) {
-        tell_refused(rt, NEW, true)?;
-        made = hops(rt.alloc());
+impl Opening for Process<Stations> {
+    type Made = Desk<Stations>;
+
+    fn open(&self, alloc: Global) -> Result<Desk<Stations>, Fault> {
+        Desk::new(alloc, self.model, self.config)
     }
-    match tell_made(rt, NEW, made)? {
-        Some(mut desk) => play_all(rt, &mut desk, pages, lines),
-        None => Ok(()),
-    }
+}
+
+fn hops() -> Result<Process<Hop>, Fault> {
+    let (model, config) = (Hop::new(1, 1, 1, 0)?, Config::new(2, 2, 10, 0)?);
+    Ok(Process { model, config })
+}
+
+fn jobs() -> Result<Process<Stations>, Fault> {
+    let (model, config) = (Stations::new(0, 1, 1)?, Config::new(2, 2, 10, 0)?);
+    Ok(Process { model, config })
 }
 
 /// A process of the hop model is overtaken.
 pub(crate) fn straggler(rt: &HostRuntime, pages: &mut Pages) -> io::Result<()> {
-    play_hops(rt, pages, STRAGGLER)
+    match hops() {
+        Ok(process) => play_new(rt, pages, NEW, &process, STRAGGLER),
+        Err(_) => Ok(()),
+    }
 }
 
 /// How often a process of the hop model calls its handlers.
 pub(crate) fn handlers(rt: &HostRuntime, pages: &mut Pages) -> io::Result<()> {
-    play_hops(rt, pages, HANDLERS)
+    match hops() {
+        Ok(process) => play_new(rt, pages, NEW, &process, HANDLERS),
+        Err(_) => Ok(()),
+    }
 }
 
 /// A process of the model of stations.
 pub(crate) fn empty_station(rt: &HostRuntime, pages: &mut Pages) -> io::Result<()> {
-    let mut made = jobs(rt.alloc());
-    if is_refused(&made) {
-        tell_refused(rt, NEW, true)?;
-        made = jobs(rt.alloc());
-    }
-    match tell_made(rt, NEW, made)? {
-        Some(mut desk) => play_all(rt, &mut desk, pages, EMPTY_STATION),
-        None => Ok(()),
+    match jobs() {
+        Ok(process) => play_new(rt, pages, NEW, &process, EMPTY_STATION),
+        Err(_) => Ok(()),
     }
 }

@@ -1,13 +1,13 @@
-//! A run on two workers, in threads.
+//! Runs on two workers, in threads.
 
-use crate::calls::sum_of_records;
 use std::alloc::AllocGlobal;
 use std::io::{self, Print};
 use std::sync::Wait;
+use std::sync::atomic::{AtomicU64, Ordering};
 use std::thread::Threads;
 use vt_model::{Config, Record};
 use vt_models::Hop;
-use vt_station::{Open, Stopped, run_workers};
+use vt_station::{Gate, Stopped, run_workers};
 
 const TURNS: u64 = 100_000;
 
@@ -33,41 +33,88 @@ fn all_records() -> [Record; 6] {
     ]
 }
 
-// Whether these records begin those of the whole run.
-fn begins_all(records: &[Record]) -> bool {
-    all_records().starts_with(records)
+/// Counts the executions that a run tells it of.
+#[derive(Drop)]
+struct Counter {
+    executions: AtomicU64,
 }
 
-fn tell_whole<R: Print>(rt: &R, records: &[Record]) -> io::Result<()> {
-    let is_whole = records == &all_records()[..];
-    let what = if is_whole { "ok" } else { "WRONG" };
-    println!(rt; "run_workers {what}")
-}
-
-fn tell_stop<R: Print>(rt: &R, stopped: &Stopped) -> io::Result<()> {
-    if !begins_all(&stopped.records) {
-        return println!(rt; "run_workers WRONG");
+impl Gate for Counter {
+    fn before_execute(&self, _worker: u32, _turn: u64) {
+        self.executions.fetch_add(1, Ordering::SeqCst);
     }
-    let (number, count) = (stopped.fault.number(), stopped.records.len());
-    println!(rt; "run_workers stopped {number} {count}")
 }
 
-fn ran<R: Threads + Wait + Sync + Print + AllocGlobal>(
+// Two tokens that hop twice, on two workers, each of so many turns. Nothing if the options were refused, which they aren't.
+fn run<R: Threads + Wait + Sync + AllocGlobal>(
     rt: &R,
-    model: &Hop,
-    config: Config,
-) -> io::Result<()> {
-    match run_workers(rt, rt.alloc(), config, model, &Open, TURNS) {
-        Ok(records) => tell_whole(rt, &records),
-        Err(stopped) => tell_stop(rt, &stopped),
+    gate: &Counter,
+    turns: u64,
+) -> Option<Result<Vec<Record>, Stopped>> {
+    match (Hop::new(2, 1, 2, 0), Config::new(2, 2, 10, 0)) {
+        (Ok(model), Ok(config)) => Some(run_workers(rt, rt.alloc(), config, &model, gate, turns)),
+        _ => None,
     }
 }
 
-/// Two tokens that hop twice, on two workers. A line tells that all was committed, or why the run stopped and how many
-/// records it left.
-pub(crate) fn hops<R: Threads + Wait + Sync + Print + AllocGlobal>(rt: &R) -> io::Result<()> {
-    match (Hop::new(2, 1, 2, 0), Config::new(2, 2, 10, 0)) {
-        (Ok(model), Ok(config)) => ran(rt, &model, config),
-        _ => Ok(()),
+/// How a run ended.
+#[derive(Clone, Copy, PartialEq, Eq)]
+enum End {
+    /// With all records, each of which the gate was told of.
+    Whole,
+    /// By this fault, with so many records that begin all.
+    Stopped(u32, usize),
+    /// With other records.
+    Wrong,
+}
+
+fn end_of(ran: &Option<Result<Vec<Record>, Stopped>>, executions: u64) -> End {
+    match ran {
+        Some(Ok(records)) if executions >= 6 && records.as_slice() == &all_records()[..] => {
+            End::Whole
+        }
+        Some(Err(stopped)) if all_records().starts_with(&stopped.records) => {
+            End::Stopped(stopped.fault.number(), stopped.records.len())
+        }
+        _ => End::Wrong,
     }
+}
+
+fn ended<R: Threads + Wait + Sync + AllocGlobal>(rt: &R, turns: u64) -> End {
+    let gate = Counter {
+        executions: AtomicU64::new(0),
+    };
+    let ran = run(rt, &gate, turns);
+    end_of(&ran, gate.executions.load(Ordering::SeqCst))
+}
+
+/// A run of many turns. A line tells that all was committed, or why the run stopped and how many records it left.
+pub(crate) fn hops<R: Threads + Wait + Sync + Print + AllocGlobal>(rt: &R) -> io::Result<()> {
+    match ended(rt, TURNS) {
+        End::Whole => println!(rt; "run_workers ok"),
+        End::Stopped(number, count) => println!(rt; "run_workers stopped {number} {count}"),
+        End::Wrong => println!(rt; "run_workers WRONG"),
+    }
+}
+
+// Whether a run of so many turns may end so: one turn can't close a round, so that nothing is committed.
+fn may_end(turns: u64, end: End) -> bool {
+    match end {
+        End::Whole => turns > 1,
+        End::Stopped(number, count) => number == 6 && (turns > 1 || count == 0),
+        End::Wrong => false,
+    }
+}
+
+/// Runs whose turns may end before the run does: each leaves all records, or a beginning since its turns are spent.
+pub(crate) fn turns<R: Threads + Wait + Sync + Print + AllocGlobal>(rt: &R) -> io::Result<()> {
+    for turns in 1..51u64 {
+        let what = if may_end(turns, ended(rt, turns)) {
+            "right"
+        } else {
+            "WRONG"
+        };
+        println!(rt; "run_workers {turns} = {what}")?;
+    }
+    Ok(())
 }

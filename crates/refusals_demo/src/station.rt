@@ -1,251 +1,154 @@
-//! A station, whose places are driven by hand from one thread.
+//! A station, whose places are driven by hand from one thread, with answers that were worked out from the rules of the steps.
 
 ghost use Rattle.std.specs.Prelude.{◌≡◌, ◌<◌, length};
 ghost use Rattle.vt_model.specs.Simulation.{simulation_of};
 ghost use Rattle.vt_places.specs.Told.{station_model, station_config, station_table};
 ghost use Rattle.vt_places.specs.Making.{AreNew, IsNew};
 
-use crate::calls::{
-    NONE, Subject, Told, answer_of, is_refused, sum_of_numbers, sum_of_records, tell_answer,
-    tell_refused, time_told, try_call,
+use crate::board::tell_report;
+use crate::page::Page;
+use crate::playing::{
+    Pages, Player, index, is_refused, number, play_all, print_made, print_records, print_refused,
+    stamp, word,
 };
-use crate::world::{AHEAD, COMMITS};
+use crate::workers::{look, tell_kernel};
 use std::alloc::Global;
 use std::io;
 use vt_kernel::Kernel;
-use vt_key::{Colour, Fault};
+use vt_key::Fault;
 use vt_model::{Config, Model as EventModel, Record};
 use vt_models::Hop;
 use vt_places::{Place, Station, Worker};
-use vt_steps::Step;
 
-// Worker 0 with process 0, and worker 1 with process 1.
+/// Workers of a station, each of which has the number of its process. Their calls say nothing: what is known of a worker isn't carried
+/// from call to call.
 #[derive(Drop)]
 struct Crew<'a> {
     workers: Vec<Worker<'a, Hop>>,
 }
 
-impl<'a> Crew<'a> {
-    fn kernel_told(&self, w: u32) -> u64 {
-        match self.workers.get(w as usize) {
-            Some(worker) => kernel_told(worker.kernel(), w),
-            None => NONE,
-        }
-    }
-
-    fn records_told(&mut self, w: usize) -> u64 {
-        match self.workers.get_mut(w) {
-            Some(worker) => records_or_again(worker),
-            None => NONE,
-        }
-    }
-
-    fn step(&mut self, step: Step) -> Result<(), Fault> {
-        match self.workers.get_mut(worker_of(step) as usize) {
-            Some(worker) => make(worker, step),
-            None => Err(Fault::NotLawful),
-        }
-    }
-
-    fn records(&mut self) -> Result<(), Fault> {
-        match self.workers.get_mut(0) {
-            Some(worker) => answer_of(records(worker)),
-            None => Err(Fault::NotLawful),
-        }
+// Makes the local step that a line says.
+fn local(worker: &mut Worker<'_, Hop>, line: &str) -> Result<(), Fault> {
+    let p = index(line, 2);
+    match word(line, 1) {
+        "execute" => worker.execute(p),
+        "undo" => worker.undo(p),
+        "cancel" => worker.cancel(p, stamp(line, 3)),
+        "home" => worker.home(),
+        "accept" => worker.accept(number(line, 2)),
+        _ => Err(Fault::Closed),
     }
 }
 
-// The mail that a worker has, sent and got.
-fn mail_told(kernel: &Kernel<Hop>) -> u64 {
-    sum_of_numbers(&[
-        kernel.serial(),
-        kernel.outbox_len() as u64,
-        kernel.arrived_len() as u64,
-        kernel.sent(Colour::White),
-        kernel.sent(Colour::Red),
-        kernel.got(Colour::White),
-        kernel.got(Colour::Red),
-    ])
-}
-
-fn times_told(kernel: &Kernel<Hop>) -> u64 {
-    sum_of_numbers(&[
-        (kernel.colour() == Colour::Red) as u64,
-        time_told(kernel.red_minimum()),
-        time_told(kernel.floor()),
-        time_told(kernel.least()),
-    ])
-}
-
-fn process_told(kernel: &Kernel<Hop>, p: u32) -> u64 {
-    sum_of_numbers(&[
-        kernel.state(p).copied().unwrap_or(NONE),
-        kernel.number(p).unwrap_or(NONE),
-        kernel.place(p).unwrap_or(NONE),
-        kernel.pending_len(p).unwrap_or(0) as u64,
-        kernel.waiting_len(p).unwrap_or(0) as u64,
-    ])
-}
-
-fn or_none(number: Option<u32>) -> u64 {
-    match number {
-        Some(number) => u64::from(number),
-        None => NONE,
+// Makes the step that a line says at what the workers share.
+fn shared(worker: &mut Worker<'_, Hop>, line: &str) -> Result<(), Fault> {
+    match word(line, 1) {
+        "post" => worker.post(index(line, 2)),
+        "fetch" => worker.fetch(),
+        "cut" => worker.cut(),
+        "commit" => worker.commit(),
+        "close" => worker.close(),
+        _ => Err(Fault::Closed),
     }
 }
 
-// What a worker would do next.
-fn choices_told(kernel: &Kernel<Hop>) -> u64 {
-    sum_of_numbers(&[
-        or_none(kernel.next()),
-        or_none(kernel.receiver_from(0)),
-        or_none(kernel.home_for()),
-        or_none(kernel.arrived_for(0)),
-    ])
-}
-
-// What a worker tells of itself and of process `p`.
-fn kernel_told(kernel: &Kernel<Hop>, p: u32) -> u64 {
-    sum_of_numbers(&[
-        mail_told(kernel),
-        times_told(kernel),
-        process_told(kernel, p),
-        choices_told(kernel),
-    ])
+fn report(worker: &mut Worker<'_, Hop>, page: &mut Page) {
+    match worker.report() {
+        Ok(report) => tell_report(report, page),
+        Err(fault) => page.refusal(fault),
+    }
 }
 
 fn records(worker: &mut Worker<'_, Hop>) -> Result<Vec<Record>, Fault> {
     worker.records()
 }
 
-fn records_told(worker: &mut Worker<'_, Hop>) -> Option<u64> {
-    match records(worker) {
-        Ok(records) => Some(sum_of_records(&records)),
-        Err(_) => None,
-    }
+fn hand_out(
+    worker: &mut Worker<'_, Hop>,
+    from: usize,
+    records: &mut Vec<Record>,
+) -> Result<(), Fault> {
+    worker.hand_out(from, records)
+}
+
+fn kernel<'k>(worker: &'k Worker<'_, Hop>) -> &'k Kernel<Hop> {
+    worker.kernel()
 }
 
 // The records of the book that a worker finds.
-fn records_or_again(worker: &mut Worker<'_, Hop>) -> u64 {
-    match records_told(worker) {
-        Some(records) => records,
-        None => records_told(worker).unwrap_or(NONE),
+fn records_or_again(worker: &mut Worker<'_, Hop>) -> Result<Vec<Record>, Fault> {
+    match records(worker) {
+        Err(Fault::Memory) => records(worker),
+        given => given,
     }
 }
 
-// Makes a step at the worker's own processes.
-fn make_local(worker: &mut Worker<'_, Hop>, step: Step) -> Result<(), Fault> {
-    match step {
-        Step::Execute(lp) => worker.execute(lp),
-        Step::Undo(lp) => worker.undo(lp),
-        Step::Cancel(lp, stamp) => worker.cancel(lp, stamp),
-        Step::Home(_) => worker.home(),
-        Step::Accept(_, i) => worker.accept(i),
-        _ => Err(Fault::NotLawful),
+// Tells what is handed out behind so many records. Where it is refused, the record that was there is kept.
+fn tell_handed(alloc: Global, worker: &mut Worker<'_, Hop>, from: usize, page: &mut Page) {
+    let mut records = Vec::new(alloc);
+    let record = Record {
+        time: 9,
+        ..Record::default()
+    };
+    if records.push(record).is_err() {
+        return page.refusal(Fault::Memory);
+    }
+    if let Err(fault) = hand_out(worker, from, &mut records) {
+        page.refusal(fault);
+    }
+    page.records(&records);
+}
+
+// Makes the call that a line says, and tells what it answers.
+fn play(alloc: Global, worker: &mut Worker<'_, Hop>, line: &str, page: &mut Page) {
+    match word(line, 1) {
+        "execute" | "undo" | "cancel" | "home" | "accept" => page.answer(local(worker, line)),
+        "post" | "fetch" | "cut" | "commit" | "close" => page.answer(shared(worker, line)),
+        "report" => report(worker, page),
+        "records" => page.records_given(records(worker)),
+        "hand_out" => tell_handed(alloc, worker, number(line, 2) as usize, page),
+        _ => look(kernel(worker), line, page),
     }
 }
 
-// Makes a step at what the workers share.
-fn make_shared(worker: &mut Worker<'_, Hop>, step: Step) -> Result<(), Fault> {
-    match step {
-        Step::Send(_, v) => worker.post(v),
-        Step::Fetch(_) => worker.fetch(),
-        Step::Cut(_) => worker.cut(),
-        Step::Commit(_) => worker.commit(),
-        Step::Close => worker.close(),
-        _ => Err(Fault::NotLawful),
-    }
+fn tell(worker: &mut Worker<'_, Hop>, p: u32, page: &mut Page) {
+    tell_kernel(kernel(worker), p, page);
+    page.records_given(records_or_again(worker));
 }
 
-fn report(worker: &mut Worker<'_, Hop>) -> Result<(), Fault> {
-    match worker.report() {
-        Ok(_) => Ok(()),
-        Err(fault) => Err(fault),
-    }
-}
-
-fn make(worker: &mut Worker<'_, Hop>, step: Step) -> Result<(), Fault> {
-    match step {
-        Step::Report(_) => report(worker),
-        Step::Send(_, _) | Step::Fetch(_) | Step::Cut(_) | Step::Commit(_) | Step::Close => {
-            make_shared(worker, step)
-        }
-        _ => make_local(worker, step),
-    }
-}
-
-// The worker that does this step: of two processes and two workers each has the number of the other.
-fn worker_of(step: Step) -> u32 {
-    match step {
-        Step::Execute(w) | Step::Undo(w) | Step::Cancel(w, _) => w,
-        Step::Home(w) | Step::Accept(w, _) | Step::Send(w, _) | Step::Fetch(w) => w,
-        Step::Cut(w) | Step::Report(w) | Step::Commit(w) => w,
-        Step::Close => 0,
-    }
-}
-
-fn name_of(step: Step) -> &'static str {
-    match step {
-        Step::Send(_, _) => "Station::post",
-        Step::Fetch(_) => "Station::fetch",
-        Step::Cut(_) => "Station::cut",
-        Step::Report(_) => "Station::report",
-        Step::Commit(_) => "Station::commit",
-        Step::Close => "Station::close",
-        _ => "Worker's own step",
-    }
-}
-
-#[derive(Clone, Copy)]
-enum Call {
-    Step(Step),
-    Records,
-}
-
-impl<'a> Subject for Crew<'a> {
-    type Call = Call;
-
-    fn name(call: Call) -> &'static str {
-        match call {
-            Call::Step(step) => name_of(step),
-            Call::Records => "Station::records",
-        }
-    }
-
-    fn told(&mut self, _alloc: Global) -> Told {
-        [
-            self.kernel_told(0),
-            self.kernel_told(1),
-            self.records_told(0),
-            self.records_told(1),
-            0,
-        ]
-    }
-
-    fn make(&mut self, _alloc: Global, call: Call) -> Result<(), Fault> {
-        match call {
-            Call::Step(step) => self.step(step),
-            Call::Records => self.records(),
+impl<'a> Crew<'a> {
+    fn tell_worker(&mut self, w: u32, page: &mut Page) {
+        if let Some(worker) = self.workers.get_mut(w as usize) {
+            tell(worker, w, page);
         }
     }
 }
 
-// Each step, and then a look at the records.
-fn try_steps(rt: &HostRuntime, crew: &mut Crew<'_>, steps: &[Step]) -> io::Result<()> {
-    for step in steps {
-        try_call(rt, crew, Call::Step(*step))?;
-        try_call(rt, crew, Call::Records)?;
+impl<'a> Player for Crew<'a> {
+    fn play(&mut self, alloc: Global, line: &str, page: &mut Page) {
+        match self.workers.get_mut(index(line, 0) as usize) {
+            Some(worker) => play(alloc, worker, line, page),
+            None => page.word("unknown"),
+        }
+    }
+
+    fn tell_all(&mut self, _alloc: Global, page: &mut Page) {
+        self.tell_worker(0, page);
+        self.tell_worker(1, page);
+    }
+}
+
+fn drive(
+    rt: &HostRuntime,
+    pages: &mut Pages,
+    crew: &mut Crew<'_>,
+    texts: &[&str],
+) -> io::Result<()> {
+    print_made(rt, CREW, Ok(()))?;
+    for lines in texts {
+        play_all(rt, crew, pages, lines)?;
     }
     Ok(())
-}
-
-const CREW: &str = "Station::new and Worker::new";
-
-// The workers are driven to the end.
-fn drive(rt: &HostRuntime, crew: &mut Crew<'_>) -> io::Result<()> {
-    tell_answer(rt, CREW, Ok(()))?;
-    try_steps(rt, crew, &AHEAD)?;
-    try_steps(rt, crew, &COMMITS)
 }
 
 // Adds worker `w`, at its place.
@@ -271,8 +174,10 @@ fn add<'a, M: EventModel>(
     }
 }
 
-// The workers of a station's two places, in order.
-fn workers_of<'a, M: EventModel>(
+/// A worker at each of these places, which the station made for all of its workers, in order.
+///
+/// [`Fault::Memory`]: memory was refused.
+fn workers_at<'a, M: EventModel>(
     alloc: Global,
     station: &'a Station<M>,
     model: &'a M,
@@ -284,41 +189,285 @@ fn workers_of<'a, M: EventModel>(
     requires places { AreNew (simulation_of (M.handlers model.now) config) (station_table station.now) 0 places.items }
 {
     let mut places = places;
+    let mut workers = Vec::new(alloc);
+    for w in 0..config.workers {
+        let place = places.remove(0);
+        let Ok(()) = add(alloc, station, model, config, w, place, &mut workers) else {
+            return Err(Fault::Memory);
+        };
+    }
+    Ok(workers)
+}
+
+const CREW: &str = "Station::new and Worker::new";
+
+// Texts that are played on a new station's workers; or why they weren't made.
+fn played(
+    rt: &HostRuntime,
+    pages: &mut Pages,
+    model: &Hop,
+    config: Config,
+    texts: &[&str],
+) -> io::Result<Result<(), Fault>> {
+    let (station, places) = match Station::new(rt.alloc(), model, config) {
+        Ok(made) => made,
+        Err(fault) => return Ok(Err(fault)),
+    };
+    match workers_at(rt.alloc(), &station, model, config, places) {
+        Ok(workers) => Ok(Ok(drive(rt, pages, &mut Crew { workers }, texts)?)),
+        Err(fault) => Ok(Err(fault)),
+    }
+}
+
+// The same, and once more where the workers are refused for memory.
+fn play_new(
+    rt: &HostRuntime,
+    pages: &mut Pages,
+    model: &Hop,
+    config: Config,
+    texts: &[&str],
+) -> io::Result<()> {
+    let mut made = played(rt, pages, model, config, texts)?;
+    if is_refused(&made) {
+        print_refused(rt, CREW, true)?;
+        made = played(rt, pages, model, config, texts)?;
+    }
+    match made {
+        Ok(()) => Ok(()),
+        Err(fault) => print_made(rt, CREW, Err(fault)),
+    }
+}
+
+/// The second worker runs ahead of what the first one sends it.
+const RUN_AHEAD: &str = "\
+0 home
+1 home
+1 execute 1
+0 execute 0
+0 post 1
+1 fetch";
+
+/// What was sent is a straggler: the second worker rolls back, and sends an anti-message, which the first one cancels.
+const ROLL_BACK: &str = "\
+1 accept 0
+1 undo 1
+1 execute 1
+1 execute 1
+1 post 0
+0 fetch
+0 accept 0
+0 accept 0
+0 accept 0
+0 cancel 0 1 1
+0 execute 0
+0 cut";
+
+/// Both report, and the end of the run is announced. The first worker has cut already.
+const AGREE: &str = "\
+1 cut
+0 report
+1 report";
+
+/// The first worker learns the floor, both commit, and the book is closed.
+const COMMIT: &str = "\
+0 cut
+0 commit
+0 records
+1 records
+1 commit
+0 records
+0 close";
+
+const BOTH: &str = "\
+1 process 1
+0 process 0";
+
+const CLOSED: &str = "\
+0 commit
+0 records
+1 records
+1 commit
+1 close
+0 records";
+
+// Plays texts on two workers with a process each.
+fn play_pair(rt: &HostRuntime, pages: &mut Pages, texts: &[&str]) -> io::Result<()> {
+    match (Hop::new(1, 1, 1, 0), Config::new(2, 2, 10, 0)) {
+        (Ok(model), Ok(config)) => play_new(rt, pages, &model, config, texts),
+        _ => Ok(()),
+    }
+}
+
+/// A straggler and its rollback; then all is committed.
+pub(crate) fn straggler(rt: &HostRuntime, pages: &mut Pages) -> io::Result<()> {
+    let texts = [RUN_AHEAD, BOTH, ROLL_BACK, BOTH, AGREE, COMMIT, CLOSED];
+    play_pair(rt, pages, &texts)
+}
+
+/// Records are handed out once. Then copies are refused.
+const HANDED_OUT: &str = "\
+0 hand_out 1
+1 hand_out 0
+0 hand_out 4
+0 hand_out 0
+1 records";
+
+/// Records are handed out, of which there are none before the commit.
+pub(crate) fn handed_out(rt: &HostRuntime, pages: &mut Pages) -> io::Result<()> {
+    let texts = [
+        RUN_AHEAD,
+        ROLL_BACK,
+        AGREE,
+        "0 hand_out 0",
+        COMMIT,
+        HANDED_OUT,
+    ];
+    play_pair(rt, pages, &texts)
+}
+
+/// Nothing was visited yet. One letter is in the outbox of each, for a process of the worker itself.
+const BEFORE_ANY_VISIT: &str = "\
+0 records
+1 records
+0 close
+0 mail
+0 colours
+0 post 0
+0 post 1
+0 post 2
+0 mail
+0 colours
+1 fetch";
+
+/// Mail was fetched and isn't accepted yet.
+const MAIL_FETCHED: &str = "\
+1 mail
+1 colours
+1 fetch
+1 mail
+1 colours
+1 report";
+
+/// The first worker has cut.
+const CUT: &str = "\
+0 mail
+0 colours
+0 cut
+0 report
+0 mail
+0 colours";
+
+/// Nothing is committed while one worker has not committed. Here that is the first one.
+const ONE_COMMITTED: &str = "\
+1 commit
+0 records
+1 records
+1 close
+0 cut
+0 commit
+0 records
+1 close
+0 records
+1 records";
+
+/// What is not lawful changes nothing.
+pub(crate) fn refusals(rt: &HostRuntime, pages: &mut Pages) -> io::Result<()> {
+    let texts = [
+        BEFORE_ANY_VISIT,
+        RUN_AHEAD,
+        MAIL_FETCHED,
+        ROLL_BACK,
+        CUT,
+        AGREE,
+        ONE_COMMITTED,
+    ];
+    play_pair(rt, pages, &texts)
+}
+
+const ALONE: &str = "\
+0 records
+0 home
+0 execute 0
+0 cut
+0 report
+0 close
+0 records
+0 commit
+0 records
+0 close
+0 hand_out 0
+0 records";
+
+/// One worker alone.
+pub(crate) fn alone(rt: &HostRuntime, pages: &mut Pages) -> io::Result<()> {
+    match (Hop::new(0, 1, 2, 0), Config::new(1, 1, 2, 0)) {
+        (Ok(model), Ok(config)) => play_new(rt, pages, &model, config, &[ALONE]),
+        _ => Ok(()),
+    }
+}
+
+/// The book was taken out by the other place, and stays claimed. The worker, which is the second one of the run, is as it was.
+const TAKEN_OUT: &str = "\
+0 mail
+0 colours
+0 commit
+0 records
+0 mail
+0 colours";
+
+// The records that the first place of two takes out. Then the second one's worker stands behind these.
+fn take_out<'a, M: EventModel>(
+    alloc: Global,
+    station: &'a Station<M>,
+    model: &'a M,
+    config: Config,
+    places: Vec<Place<M::Payload>>,
+    workers: &mut Vec<Worker<'a, M>>,
+) -> Result<Vec<Record>, Fault>
+    requires told { (station_model station.now ≡ model.now) × (station_config station.now ≡ config) }
+    requires count { length places.items ≡ config.workers }
+    requires places { AreNew (simulation_of (M.handlers model.now) config) (station_table station.now) 0 places.items }
+{
+    let mut places = places;
     if places.len() != 2 {
         return Err(Fault::NotLawful);
     }
     let first = places.remove(0);
     let second = places.remove(0);
-    let mut workers = Vec::new(alloc);
-    add(alloc, station, model, config, 0, first, &mut workers)?;
-    add(alloc, station, model, config, 1, second, &mut workers)?;
-    Ok(workers)
-}
-
-// A station whose workers are driven; or why they weren't made.
-fn opened(rt: &HostRuntime, model: &Hop, config: Config) -> io::Result<Result<(), Fault>> {
-    let (station, places) = match Station::new(rt.alloc(), model, config) {
-        Ok(made) => made,
-        Err(fault) => return Ok(Err(fault)),
-    };
-    match workers_of(rt.alloc(), &station, model, config, places) {
-        Ok(workers) => Ok(Ok(drive(rt, &mut Crew { workers })?)),
-        Err(fault) => Ok(Err(fault)),
+    match add(alloc, station, model, config, 1, second, workers) {
+        Ok(()) => station.take_out(alloc, first),
+        Err(fault) => Err(fault),
     }
 }
 
-/// A straggler and its rollback, step by step.
-pub(crate) fn straggler(rt: &HostRuntime) -> io::Result<()> {
+/// Records that are taken out of the book before any visit.
+pub(crate) fn taken_out(rt: &HostRuntime, pages: &mut Pages) -> io::Result<()> {
     let (Ok(model), Ok(config)) = (Hop::new(1, 1, 1, 0), Config::new(2, 2, 10, 0)) else {
         return Ok(());
     };
-    let mut driven = opened(rt, &model, config)?;
-    if is_refused(&driven) {
-        tell_refused(rt, CREW, true)?;
-        driven = opened(rt, &model, config)?;
+    match Station::new(rt.alloc(), &model, config) {
+        Ok((station, places)) => {
+            let mut workers = Vec::new(rt.alloc());
+            let records = take_out(rt.alloc(), &station, &model, config, places, &mut workers);
+            print_records(rt, pages, "Station::take_out", records)?;
+            drive(rt, pages, &mut Crew { workers }, &[TAKEN_OUT])
+        }
+        Err(fault) => print_made(rt, CREW, Err(fault)),
     }
-    match driven {
-        Ok(()) => Ok(()),
-        Err(fault) => tell_answer(rt, CREW, Err(fault)),
+}
+
+/// The same with the end of the station.
+pub(crate) fn into_records(rt: &HostRuntime, pages: &mut Pages) -> io::Result<()> {
+    let (Ok(model), Ok(config)) = (Hop::new(1, 1, 1, 0), Config::new(2, 2, 10, 0)) else {
+        return Ok(());
+    };
+    match Station::new(rt.alloc(), &model, config) {
+        Ok((station, places)) => {
+            let mut places = places;
+            let place = places.remove(0);
+            let records = station.into_records(rt.alloc(), place);
+            print_records(rt, pages, "Station::into_records", records)
+        }
+        Err(fault) => print_made(rt, CREW, Err(fault)),
     }
 }

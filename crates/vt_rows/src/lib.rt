@@ -1,5 +1,5 @@
-//! Worked examples of the sequential simulator and of what it stands on, run through public calls. Expected records were
-//! worked out by hand from the model's rules, and random words by another program.
+//! Worked examples of what the simulators stand on, run through public calls: lists, pending letters, random words and what models are
+//! made of. Random words were worked out by other programs.
 #![tactic(auto)]
 
 #[cfg(test)]

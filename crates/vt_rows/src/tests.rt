@@ -1,9 +1,7 @@
-//! The simulator in one thread, and the parts of it.
+//! What the simulators stand on.
 
 mod lists;
-mod models;
 mod parts;
 mod pending;
-mod sequential;
 mod streams;
 mod told;
