@@ -1,13 +1,14 @@
 //! Runs, and what is expected of them.
 
+use crate::tests::listener::Listener;
 use crate::tests::told::holds;
 use std::alloc::AllocGlobal;
 use std::process::Abort;
 use std::sync::Wait;
 use std::thread::Threads;
-use vt_model::{Config, Model as EventModel, Record};
+use vt_model::{Config, Record};
 use vt_models::Hop;
-use vt_station::{Gate, Stopped, run_workers};
+use vt_station::{Stopped, run_workers_watched};
 
 /// As many turns as the program grants a worker.
 pub const TURNS: u64 = 10_000_000;
@@ -39,41 +40,30 @@ pub fn all_records() -> [Record; 6] {
     ]
 }
 
-/// Whether a run went to its end and has these records.
-pub fn has_given(run: &Result<Vec<Record>, Stopped>, want: &[Record]) -> bool {
+fn is_whole(run: &Result<Vec<Record>, Stopped>) -> bool {
     match run {
-        Ok(records) => records.as_slice() == want,
+        Ok(records) => records.as_slice() == &all_records()[..],
         Err(_) => false,
     }
 }
 
-/// A run of which each worker makes so many turns at most.
-pub fn ran<R: Abort + AllocGlobal + Threads + Wait + Sync, M: EventModel + Sync, G: Gate + Sync>(
+// The run with two hops on so many workers, with a listener as its gate and its watch.
+fn ran<R: Abort + AllocGlobal + Threads + Wait + Sync>(
     rt: &R,
-    model: &M,
-    config: Config,
-    gate: &G,
-    turns: u64,
-) -> Result<Vec<Record>, Stopped>
-where
-    M::State: Send,
-    M::Kept: Send,
-{
-    run_workers(rt, rt.alloc(), config, model, gate, turns)
+    workers: u32,
+    listener: &Listener,
+) -> Result<Vec<Record>, Stopped> {
+    let config = Config::new(2, workers, 10, 0).expect(rt, "config");
+    let model = two_hops(rt);
+    run_workers_watched(rt, rt.alloc(), config, &model, listener, listener, TURNS)
 }
 
-/// The run through a gate goes to its end and has these records.
-pub fn gives<R: Abort + AllocGlobal + Threads + Wait + Sync, M: EventModel + Sync, G: Gate + Sync>(
+/// The run on so many workers, to which this listens, goes to its end and has all records.
+pub fn goes_to_its_end<R: Abort + AllocGlobal + Threads + Wait + Sync>(
     rt: &R,
-    model: &M,
-    config: Config,
-    gate: &G,
-    want: &[Record],
-)
-where
-    M::State: Send,
-    M::Kept: Send,
-{
-    let run = ran(rt, model, config, gate, TURNS);
-    holds(rt, has_given(&run, want), "the records of the run");
+    workers: u32,
+    listener: &Listener,
+) {
+    let run = ran(rt, workers, listener);
+    holds(rt, is_whole(&run), "the records of the run");
 }

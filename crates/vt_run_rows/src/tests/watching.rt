@@ -1,12 +1,9 @@
 //! What a run tells what watches it.
 
 use crate::tests::listener::Listener;
-use crate::tests::running::{TURNS, all_records, has_given, two_hops};
+use crate::tests::running::goes_to_its_end;
 use crate::tests::told::holds;
-use std::alloc::AllocGlobal;
 use std::rt::HostRuntime;
-use vt_model::Config;
-use vt_station::run_workers_watched;
 
 // A run of so many workers must have told this: it began once, to this end, and executed and kept what its records say.
 fn told_all(listener: &Listener, workers: u32) -> bool {
@@ -23,21 +20,7 @@ fn told_all(listener: &Listener, workers: u32) -> bool {
 fn what_is_kept_is_the_run(rt: HostRuntime) {
     for workers in 1..4u32 {
         let listener = Listener::new(false);
-        let config = Config::new(2, workers, 10, 0).expect(&rt, "config");
-        let run = run_workers_watched(
-            &rt,
-            rt.alloc(),
-            config,
-            &two_hops(&rt),
-            &listener,
-            &listener,
-            TURNS,
-        );
-        holds(
-            &rt,
-            has_given(&run, &all_records()),
-            "the records of the run",
-        );
+        goes_to_its_end(&rt, workers, &listener);
         holds(
             &rt,
             told_all(&listener, workers),
