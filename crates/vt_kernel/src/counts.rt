@@ -11,7 +11,7 @@ use vt_key::{Colour, MAX_COUNT, Mail};
 
 /// A count of mail for each colour.
 #[derive(Drop)]
-pub(crate) struct Counts {
+pub struct Counts {
     white: u64,
     red: u64,
 }
@@ -26,14 +26,14 @@ impl Model for Counts {
 
 impl Counts {
     /// Zero of each colour.
-    pub(crate) fn new() -> Counts
+    pub fn new() -> Counts
         ensures { result ≡ record { white = 0; red = 0 } }
     {
         Counts { white: 0, red: 0 }
     }
 
     /// The count of this colour.
-    pub(crate) fn of(&self, colour: Colour) -> u64
+    pub fn of(&self, colour: Colour) -> u64
         ensures { result ≡ count_of self.now colour }
     {
         match colour {
@@ -43,7 +43,7 @@ impl Counts {
     }
 
     /// The numbers of these letters by colour.
-    pub(crate) fn of_mail<P>(mails: &[Mail<P>]) -> Counts
+    pub fn of_mail<P>(mails: &[Mail<P>]) -> Counts
         ensures white { result.white ≡ count_colour White mails.now }
         ensures red { result.red ≡ count_colour Red mails.now }
     {
@@ -59,7 +59,7 @@ impl Counts {
     }
 
     /// The sums by colour; None if one would pass 2^63.
-    pub(crate) fn plus(&self, more: &Counts) -> Option<Counts>
+    pub fn plus(&self, more: &Counts) -> Option<Counts>
         ensures sum { IfSome result (λ c. c ≡ record { white = self.now.white + more.now.white; red = self.now.red + more.now.red }) }
         ensures counted { IfSome result (λ c. AreCounted c) }
         ensures passed { IfNone result ((MAX_COUNT < self.now.white + more.now.white) ⊎ (MAX_COUNT < self.now.red + more.now.red)) }
@@ -70,7 +70,7 @@ impl Counts {
     }
 
     /// How much more mail of this colour may be counted, up to 2^63.
-    pub(crate) fn room(&self, colour: Colour) -> u64
+    pub fn room(&self, colour: Colour) -> u64
         requires few { count_of self.now colour ≤ MAX_COUNT }
         ensures { result + count_of self.now colour ≡ MAX_COUNT }
     {
@@ -78,7 +78,7 @@ impl Counts {
     }
 
     /// Raises the count of this colour by `more`.
-    pub(crate) fn raise(&mut self, colour: Colour, more: u64)
+    pub fn raise(&mut self, colour: Colour, more: u64)
         requires few { count_of self.old colour + more ≤ MAX_COUNT }
         ensures { self.new ≡ raised self.old colour more }
     {

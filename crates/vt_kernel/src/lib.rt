@@ -20,6 +20,8 @@ mod sending;
 mod settling;
 mod steering;
 
+pub use counts::Counts;
 pub use cutting::least_of_mail;
 pub use kernel::Kernel;
 pub use making::starts_fit;
+pub use sending::{mail_letters, make_room};

@@ -48,7 +48,8 @@ impl<M: EventModel> Kernel<M> {
         let room = self.sent.room(self.colour);
         let count = make_room(&self.outbox, v, room, mail)?;
         let letters = self.outbox.take_for(v, *mail.allocator());
-        let least = move_letters(letters, &mut self.spare, self.config, self.colour, mail);
+        let least = mail_letters(&letters, self.config, self.colour, mail);
+        keep_nodes(letters, &mut self.spare);
         self.sent.raise(self.colour, count);
         self.red_minimum = self.red_minimum.earlier(least);
         Ok(())
@@ -60,17 +61,15 @@ impl<M: EventModel> Kernel<M> {
         ensures first { IfSome result (λ u. (v ≤ u) × (u < self.now.config.workers) × (may_send self.now.config.workers self.now.worker u self.now.outbox ≡ true) × ((k : ℕ) → v ≤ k → k < u → may_send self.now.config.workers self.now.worker k self.now.outbox ≡ false)) }
         ensures nobody { IfNone result ((k : ℕ) → v ≤ k → may_send self.now.config.workers self.now.worker k self.now.outbox ≡ false) }
     {
-        for u in v..self.config.workers {
-            if u != self.worker && self.outbox.has_for(u) {
-                return Some(u);
-            }
-        }
-        None
+        self.outbox.receiver_from(self.worker, v)
     }
 }
 
-/// Makes room in `mail` for the letters of an outbox that are for processes of worker `v`, and returns their number.
-fn make_room<P: Copy>(
+/// Makes room in `mail` for the letters of an outbox that are for processes of worker `v`, and returns their number, which is at most
+/// `most`.
+///
+/// [`Fault::NotLawful`]: there are none. [`Fault::Exhausted`]: there are more. [`Fault::Memory`]: memory was refused.
+pub fn make_room<P: Copy>(
     outbox: &Outbox<P>,
     v: u32,
     most: u64,
@@ -93,29 +92,33 @@ fn make_room<P: Copy>(
     Ok(count)
 }
 
-/// Moves letters to the back of `mail`, which must have room. Returns their least time, or the end of the run if there are
-/// none. The nodes are kept for other letters.
-fn move_letters<P: Copy, K: Copy>(
-    letters: List<Letter<P>>,
-    spare: &mut Spare<P, K>,
+/// Writes letters to the back of `mail`, which must have room, as mail of this colour. Returns their least time, or the end of the run if
+/// there are none.
+pub fn mail_letters<P: Copy>(
+    letters: &List<Letter<P>>,
     config: Config,
     colour: Colour,
     mail: &mut Vec<Mail<P>>,
 ) -> When
-    requires room { vec_len mail.old + length letters ≤ vec_capacity mail.old }
-    ensures mail { mail.new.items ≡ mail.old.items ++ map (mailed colour) letters }
-    ensures least { result ≡ least_time (end_of config) letters }
+    requires room { vec_len mail.old + length letters.now ≤ vec_capacity mail.old }
+    ensures mail { mail.new.items ≡ mail.old.items ++ map (mailed colour) letters.now }
+    ensures least { result ≡ least_time (end_of config) letters.now }
 {
-    let mut letters = letters;
     let mut least = config.end();
-    while let Some(parcel) = letters.pop_front() {
-        let letter = parcel.get();
+    for letter in letters.iter() {
         least = least.earlier(letter.event.rank.key.when());
         let _ = mail.push(Mail {
             letter: *letter,
             colour,
         });
-        spare.keep_letter(parcel);
     }
     least
+}
+
+/// Keeps the nodes of letters for other ones.
+fn keep_nodes<P: Copy, K: Copy>(letters: List<Letter<P>>, spare: &mut Spare<P, K>) {
+    let mut letters = letters;
+    while let Some(parcel) = letters.pop_front() {
+        spare.keep_letter(parcel);
+    }
 }

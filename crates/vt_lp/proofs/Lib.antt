@@ -1,14 +1,14 @@
 mod ProcessView
-mod RisingLemmas
+pub mod RisingLemmas
 mod ReachLemmas
 mod ReadyLemmas
 mod LeastLemmas
 pub mod AcceptLemmas
 pub mod CancelLemmas
-mod Stamping
+pub mod Stamping
 pub mod RipeLemmas
-mod Ends
-mod Advancing
+pub mod Ends
+pub mod Advancing
 pub mod ExecuteLemmas
-mod UndoLemmas
+pub mod UndoLemmas
 mod SettledLemmas

@@ -15,4 +15,5 @@ mod starting;
 mod undoing;
 
 pub use lp::Lp;
+pub use starting::start;
 pub use vt_past::Spare;

@@ -63,10 +63,11 @@ impl<M: EventModel> Lp<M> {
     }
 }
 
-/// Starts a process, and makes the messages of what it sends.
+/// Starts process `lp`, which is below `config.lps`, and makes the messages of what it sends below the end of the run. Their stamps are of the
+/// process's worker, with serials from `serial` on.
 ///
 /// [`Fault::Exhausted`]: the serial would pass 2^63. [`Fault::Memory`]: memory was refused.
-fn start<M: EventModel>(
+pub fn start<M: EventModel>(
     alloc: Global,
     spare: &mut Spare<M::Payload, M::Kept>,
     model: &M,

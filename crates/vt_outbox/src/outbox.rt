@@ -1,6 +1,6 @@
 //! The letters that leave a worker's processes, by the worker that receives them.
 
-ghost use Rattle.std.specs.Prelude.{◌≡◌, ◌%◌, ◌^◌, ◌<◌, ◌≤◌, List as Items, [], ◌∷◌, ◌++◌, not, length, filter, find, IfOk, IfErr, IfSome, IfNone};
+ghost use Rattle.std.specs.Prelude.{◌≡◌, ℕ, ◌%◌, ◌^◌, ◌<◌, ◌≤◌, List as Items, [], ◌∷◌, ◌++◌, true, false, not, length, filter, find, IfOk, IfErr, IfSome, IfNone};
 ghost use Rattle.std.specs.List.{list_any};
 ghost use Rattle.std.specs.Option.{option_copied};
 ghost use Rattle.vt_key.specs.Queues.{without_first};
@@ -8,6 +8,7 @@ ghost use Rattle.vt_key.specs.declared.fault.Fault.TheVariants.{Memory};
 ghost use Rattle.vt_key.specs.declared.letter.Letter.{Letter as LetterValue};
 ghost use Rattle.vt_steps.specs.Letters.{least_time};
 ghost use Rattle.vt_steps.specs.PartSteps.{is_for};
+ghost use Rattle.vt_steps.specs.CellSteps.{may_send};
 
 use std::alloc::Global;
 use std::marker::Model;
@@ -145,6 +146,20 @@ impl<P: Copy> Outbox<P> {
             return false;
         };
         !list.is_empty()
+    }
+
+    /// The first worker from number `v` on, other than worker `own`, for whose processes there is a letter; None if there is none. Worker
+    /// `own` may send to it.
+    pub fn receiver_from(&self, own: u32, v: u32) -> Option<u32>
+        ensures first { IfSome result (λ u. (v ≤ u) × (u < self.now.config.workers) × (may_send self.now.config.workers own u self.now.letters ≡ true) × ((k : ℕ) → v ≤ k → k < u → may_send self.now.config.workers own k self.now.letters ≡ false)) }
+        ensures nobody { IfNone result ((k : ℕ) → v ≤ k → may_send self.now.config.workers own k self.now.letters ≡ false) }
+    {
+        for u in v..self.config.workers {
+            if u != own && self.has_for(u) {
+                return Some(u);
+            }
+        }
+        None
     }
 
     /// The first letter for a process of worker `v`; None if there is none.

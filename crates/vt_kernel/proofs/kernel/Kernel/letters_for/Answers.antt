@@ -77,7 +77,7 @@ returns-clause-sent g c =
     let letters : c.take_for-letters.new.self.letters ≡ filter (λ (l : Letter _). not (is_for k.config.workers c.args.v l)) k.outbox.letters =
     ap (λ (o : HeldOutbox _). o.letters) c.take_for-letters.ensures.left ∙ ap (λ (f : Config). filter (λ (l : Letter _). not (is_for f.workers c.args.v l)) k.outbox.letters) c.self.invariant.by_worker in
     let sent : c.raise.new.self ≡ raised k.sent k.colour (length (filter (is_for k.config.workers c.args.v) k.outbox.letters)) = c.raise.ensures ∙ ap (raised k.sent k.colour) (c.in_ok-count.ensures.count.0 ∙ ap length theirs) in
-    let red : c.earlier-self-inside.result ≡ earlier k.red_minimum (least_time (end_of k.config) (filter (is_for k.config.workers c.args.v) k.outbox.letters)) = c.earlier-self-inside.ensures ∙ ap (earlier k.red_minimum) (c.move_letters-least.ensures.least ∙ ap (least_time (end_of k.config)) (c.take_for-letters.ensures.taken ∙ theirs)) in
+    let red : c.earlier-self-inside.result ≡ earlier k.red_minimum (least_time (end_of k.config) (filter (is_for k.config.workers c.args.v) k.outbox.letters)) = c.earlier-self-inside.ensures ∙ ap (earlier k.red_minimum) (c.mail_letters-least.ensures.least ∙ ap (least_time (end_of k.config)) (c.take_for-letters.ensures.taken ∙ theirs)) in
     (λ j. record {
       worker = k.worker;
       config = k.config;
@@ -115,7 +115,7 @@ returns-clause-done g c handlers part s =
     let letters : c.take_for-letters.new.self.letters ≡ filter (λ (l : Letter _). not (is_for k.config.workers c.args.v l)) k.outbox.letters =
     ap (λ (o : HeldOutbox _). o.letters) c.take_for-letters.ensures.left ∙ ap (λ (f : Config). filter (λ (l : Letter _). not (is_for f.workers c.args.v l)) k.outbox.letters) c.self.invariant.by_worker in
     let sent : c.raise.new.self ≡ raised k.sent k.colour (length (filter (is_for k.config.workers c.args.v) k.outbox.letters)) = c.raise.ensures ∙ ap (raised k.sent k.colour) (c.in_ok-count.ensures.count.0 ∙ ap length theirs) in
-    let red : c.earlier-self-inside.result ≡ earlier k.red_minimum (least_time (end_of k.config) (filter (is_for k.config.workers c.args.v) k.outbox.letters)) = c.earlier-self-inside.ensures ∙ ap (earlier k.red_minimum) (c.move_letters-least.ensures.least ∙ ap (least_time (end_of k.config)) (c.take_for-letters.ensures.taken ∙ theirs)) in
+    let red : c.earlier-self-inside.result ≡ earlier k.red_minimum (least_time (end_of k.config) (filter (is_for k.config.workers c.args.v) k.outbox.letters)) = c.earlier-self-inside.ensures ∙ ap (earlier k.red_minimum) (c.mail_letters-least.ensures.least ∙ ap (least_time (end_of k.config)) (c.take_for-letters.ensures.taken ∙ theirs)) in
     let own : nat_eq k.worker c.args.v ≡ false = grind (arith, nat_tests) in
     let other : nat_eq c.args.self.now.worker c.args.v ≡ false = ap (λ (v : HeldWorker _ _ _). nat_eq v.worker c.args.v) (sym c.self.view_is) ∙ own in
     let number = count_sent c.self.view_is handlers c.args.v part s in
@@ -124,5 +124,5 @@ returns-clause-done g c handlers part s =
     let some : 0 < length (letters_for (simulation_of handlers c.args.self.now.config) c.args.v part) = omega (arith, number, count.0, count.2, same) in (
       may_send-yes (simulation_of handlers c.args.self.now.config) c.args.self.now.worker c.args.v part other some,
       stands-send c.self.view_is handlers c.args.v part s _ letters _ sent _ red,
-      c.move_letters-least.ensures.mail ∙ (λ j. c.make_room.ensures.items j ++ (ap (map (mailed k.colour)) (c.take_for-letters.ensures.taken ∙ theirs) ∙ mail-sent c.self.view_is handlers c.args.v part s) j),
+      c.mail_letters-least.ensures.mail ∙ (λ j. c.make_room.ensures.items j ++ (ap (map (mailed k.colour)) (c.take_for-letters.ensures.taken ∙ theirs) ∙ mail-sent c.self.view_is handlers c.args.v part s) j),
     )
