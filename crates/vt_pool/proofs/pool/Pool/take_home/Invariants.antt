@@ -1,0 +1,6 @@
+use Rattle.vt_key.specs.Queues.{without_first}
+use Rattle.vt_steps.specs.PartSteps.{is_for}
+use Rattle.vt_pool.proofs.pool.Pool.take_home.Given as goal
+
+abbrev pub ghost-pop_for : goal.ghost-pop_for
+ghost-pop_for g a = without_first (is_for a.self.now.config.workers a.v) a.self.now.letters

@@ -1,0 +1,23 @@
+//! The processes of a worker of a Time Warp run, with one calendar of pending letters and one log of past events for all of them.
+//!
+//! Contracts see what is kept of all processes together (`HeldPool`), and what its calls do as lists of steps of one worker (`PoolLeadsTo`).
+#![tactic(auto)]
+
+mod arriving;
+mod committing;
+mod counts;
+mod delivering;
+mod executing;
+mod finding;
+mod holding;
+mod homing;
+mod kept;
+mod leaving;
+mod making;
+mod pool;
+mod posting;
+mod receiving;
+mod reporting;
+mod undoing;
+
+pub use pool::Pool;
