@@ -1,9 +1,9 @@
 //! A station, whose places are driven by hand from one thread, with answers that were worked out from the rules of the steps.
 
 ghost use Rattle.std.specs.Prelude.{◌≡◌, ◌<◌, length};
-ghost use Rattle.vt_model.specs.Simulation.{simulation_of};
-ghost use Rattle.vt_places.specs.Told.{station_model, station_config, station_table};
-ghost use Rattle.vt_places.specs.Making.{AreNew, IsNew};
+ghost use Rattle.vt_model.specs.promise.Simulation.{simulation_of};
+ghost use Rattle.vt_places.specs.inside.Told.{station_model, station_config, station_table};
+ghost use Rattle.vt_places.specs.inside.Making.{AreNew, IsNew};
 
 use crate::board::tell_report;
 use crate::page::Page;

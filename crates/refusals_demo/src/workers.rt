@@ -1,7 +1,7 @@
 //! Workers, and mail that is moved between them by hand.
 
 ghost use Rattle.std.specs.Prelude.{◌≡◌, IfOk, true};
-ghost use Rattle.vt_kernel.specs.Held.{AllOwnMail};
+ghost use Rattle.vt_kernel.specs.inside.Held.{AllOwnMail};
 
 use crate::page::Page;
 use crate::playing::{Opening, Pages, Player, index, number, play_new, stamp, tick, word};

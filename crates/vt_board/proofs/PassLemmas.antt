@@ -3,14 +3,14 @@ use Rattle.std.proofs.Common.{◌≡◌, inl, inr, ℕ, zero, suc, ◌+◌, ◌<
 use Rattle.std.proofs.lemmas.Bool.Decides.{eqb_tells}
 use Rattle.std.proofs.lemmas.List.{length-set}
 use Rattle.std.proofs.lemmas.List.Sums.{sum_by-cons, sum_by_push}
-use Rattle.vt_key.specs.Times.{Time, TimeAtMost, earlier}
+use Rattle.vt_key.specs.promise.Times.{Time, TimeAtMost, earlier}
 use Rattle.vt_steps.specs.declared.step.Reply.TheVariants.{Waiting, Again, Announced}
-use Rattle.vt_steps.specs.World.{Board}
-use Rattle.vt_steps.specs.BoardSteps.{all_set, with_new_pass, with_announcement, with_report, BoardEffect, after_report}
+use Rattle.vt_steps.specs.promise.World.{Board}
+use Rattle.vt_steps.specs.promise.BoardSteps.{all_set, with_new_pass, with_announcement, with_report, BoardEffect, after_report}
 use Rattle.vt_steps.proofs.steps.Outcomes.{after_report-either}
 use Rattle.vt_steps.proofs.time.Flags.{set-at, may-tells}
 use Rattle.vt_steps.proofs.lists.Places.{get-put_same, get-put_other, get-within}
-use Rattle.vt_board.specs.Passes.{WorkerReport, with_one_more, heard, board_after_all, AreAwaited, least_reported, times_reported, all_sent, all_got, ArePassesClosedBySums}
+use Rattle.vt_board.specs.inside.Passes.{WorkerReport, with_one_more, heard, board_after_all, AreAwaited, least_reported, times_reported, all_sent, all_got, ArePassesClosedBySums}
 
 -- ---- one report
 

@@ -3,8 +3,8 @@ use Rattle.std.proofs.Common.{◌≡◌, ℕ, zero, suc, ◌+◌, ◌^◌, ◌<�
 use Rattle.std.specs.List.{count_by}
 use Rattle.std.proofs.lemmas.List.Sums.{count_by-le-length, sum_by-cons}
 use Rattle.vt_key.specs.declared.limits.TheConstants.{MAX_WORKERS}
-use Rattle.vt_steps.specs.BoardSteps.{is_clear}
-use Rattle.vt_board.specs.BoardOfRun.{most_summed}
+use Rattle.vt_steps.specs.promise.BoardSteps.{is_clear}
+use Rattle.vt_board.specs.inside.BoardOfRun.{most_summed}
 
 -- how many flags are set
 set_count : List Bool → ℕ

@@ -1,4 +1,1 @@
-pub mod BoardOfRun
-pub mod Calls
-pub mod Kept
-pub mod Passes
+pub mod inside

@@ -1,12 +1,12 @@
 //! The board of a run.
 
 ghost use Rattle.std.specs.Prelude.{◌≡◌, ◌<◌, ◌≤◌, true, false, Ok, Err, IfOk, IfErr, OnOk, OnErr, is_ok, slice_get, slice_set};
-ghost use Rattle.vt_key.specs.Times.{TimeAtMost, at};
+ghost use Rattle.vt_key.specs.promise.Times.{TimeAtMost, at};
 ghost use Rattle.vt_key.specs.declared.fault.Fault.TheVariants.{NotLawful};
 ghost use Rattle.vt_key.specs.declared.limits.TheConstants.{MAX_COUNT, MAX_END, MAX_WORKERS};
-ghost use Rattle.vt_steps.specs.BoardSteps.{all_set, is_clear, with_new_pass, with_open_round, with_report, after_report};
-ghost use Rattle.vt_board.specs.BoardOfRun.{run_with_board, opening_run, after_rounds};
-ghost use Rattle.vt_board.specs.Calls.{cut_outcome, takes_report, reply_of};
+ghost use Rattle.vt_steps.specs.promise.BoardSteps.{all_set, is_clear, with_new_pass, with_open_round, with_report, after_report};
+ghost use Rattle.vt_board.specs.inside.BoardOfRun.{run_with_board, opening_run, after_rounds};
+ghost use Rattle.vt_board.specs.inside.Calls.{cut_outcome, takes_report, reply_of};
 
 use crate::worker_set::WorkerSet;
 use std::marker::Model;
@@ -42,11 +42,11 @@ pub struct Board {
 }
 
 impl Model for Board {
-    ghost use Rattle.vt_board.specs.BoardOfRun.{BoardOfRun, IsBoardOfRun};
+    ghost use Rattle.vt_board.specs.inside.BoardOfRun.{BoardOfRun, IsBoardOfRun};
 
     ghost Value = { BoardOfRun };
 
-    ghost use Rattle.vt_board.specs.Kept.{kept_board};
+    ghost use Rattle.vt_board.specs.inside.Kept.{kept_board};
 
     ghost view = { kept_board };
 
@@ -97,7 +97,7 @@ impl Board {
         self.announced
     }
 
-    #[tactic(auto, unfolding(vt_steps::specs::BoardSteps::with_open_round))]
+    #[tactic(auto, unfolding(vt_steps::specs::promise::BoardSteps::with_open_round))]
     /// Worker `w` cuts in the open round; if none is open, it opens a new one. Returns the announced time.
     ///
     /// [`Fault::NotLawful`]: `w` is no worker, or it has cut in the open round. [`Fault::Exhausted`]: one more round
@@ -137,7 +137,7 @@ impl Board {
         self.announced
     }
 
-    #[tactic(auto, unfolding(vt_steps::specs::BoardSteps::with_report, vt_steps::specs::BoardSteps::after_report))]
+    #[tactic(auto, unfolding(vt_steps::specs::promise::BoardSteps::with_report, vt_steps::specs::promise::BoardSteps::after_report))]
     /// Worker `w` reports how much mail of the old colour it has ever sent and got, and a least time. That
     /// is the least of all that it has and of all that it sent since its cut. The last report closes the pass.
     ///
@@ -173,7 +173,7 @@ impl Board {
             && least <= self.end
     }
 
-    #[tactic(auto, unfolding(vt_steps::specs::BoardSteps::with_open_round))]
+    #[tactic(auto, unfolding(vt_steps::specs::promise::BoardSteps::with_open_round))]
     /// Opens a round.
     fn open_round(&mut self)
         requires none_open { self.old.board.is_open ≡ false }
@@ -196,7 +196,7 @@ impl Board {
         self.least = self.end;
     }
 
-    #[tactic(auto, using(crate::proofs::Sums::summed, crate::proofs::Sums::room), unfolding(vt_steps::specs::BoardSteps::with_report))]
+    #[tactic(auto, using(crate::proofs::Sums::summed, crate::proofs::Sums::room), unfolding(vt_steps::specs::promise::BoardSteps::with_report))]
     /// Adds the report of a worker that hasn't reported in this pass.
     fn add(&mut self, w: u32, sent: u64, got: u64, least: When)
         requires first { is_clear (slice_get self.old.board.has_reported w) ≡ true }
@@ -210,7 +210,7 @@ impl Board {
         self.least = self.least.earlier(least);
     }
 
-    #[tactic(auto, unfolding(vt_steps::specs::BoardSteps::after_report))]
+    #[tactic(auto, unfolding(vt_steps::specs::promise::BoardSteps::after_report))]
     /// Closes a pass in which all have reported.
     fn close_pass(&mut self) -> Report
         requires all { all_set self.old.board.has_reported ≡ true }

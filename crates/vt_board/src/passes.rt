@@ -1,6 +1,6 @@
 //! The outcome of a whole pass, in any order of its reports.
 
-ghost use Rattle.vt_board.specs.Passes.{ArePassesClosedBySums};
+ghost use Rattle.vt_board.specs.inside.Passes.{ArePassesClosedBySums};
 
 #[tactic(auto, using(crate::proofs::PassLemmas::closed_by_sums))]
 /// Each worker reports once in a pass, in any order. If the workers sent in all as much mail of the old colour as

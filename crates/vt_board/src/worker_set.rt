@@ -2,7 +2,7 @@
 
 ghost use Rattle.std.specs.Prelude.{◌≡◌, ◌<◌, ◌≤◌, nat_lt, false, true, length, replicate, slice_get, slice_set};
 ghost use Rattle.vt_key.specs.declared.limits.TheConstants.{MAX_WORKERS};
-ghost use Rattle.vt_steps.specs.BoardSteps.{all_set, is_clear};
+ghost use Rattle.vt_steps.specs.promise.BoardSteps.{all_set, is_clear};
 
 use std::marker::Model;
 use vt_key::MAX_WORKERS;

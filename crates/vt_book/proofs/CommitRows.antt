@@ -2,18 +2,18 @@
 use Rattle.std.proofs.Common.{◌≡◌, ℕ, suc, ◌+◌, true, false, cond, List, [], ◌∷◌, take, refl, sym, ap, subst, arith, Some, slice_get}
 use Rattle.std.specs.List.{prefix_len, AllByRecursion}
 use Rattle.std.proofs.lemmas.Bool.Decides.{nat_tests}
-use Rattle.vt_key.specs.Times.{Time, TimeBefore, TimeAtMost}
-use Rattle.vt_key.specs.Keys.{Key}
+use Rattle.vt_key.specs.promise.Times.{Time, TimeBefore, TimeAtMost}
+use Rattle.vt_key.specs.promise.Keys.{Key}
 use Rattle.vt_model.specs.declared.rows.Row.{Row}
 use Rattle.vt_model.specs.declared.sending.Sent.{Sent}
-use Rattle.vt_model.specs.Rows.{AreRowsOf}
-use Rattle.vt_model.specs.Histories.{IsLawful}
-use Rattle.vt_model.specs.Simulation.{Simulation, Triple}
+use Rattle.vt_model.specs.promise.Rows.{AreRowsOf}
+use Rattle.vt_model.specs.promise.Histories.{IsLawful}
+use Rattle.vt_model.specs.promise.Simulation.{Simulation, Triple}
 use Rattle.vt_steps.specs.declared.step.Step.{Step}
-use Rattle.vt_steps.specs.Rows.{rows_from}
-use Rattle.vt_steps.specs.World.{Entry, LogicalProcess, Part, entry_events, triple_after, process_at}
-use Rattle.vt_steps.specs.PartSteps.{is_below, ripe, ripe_rows, rows_of_commit}
-use Rattle.vt_steps.specs.Next.{reached}
+use Rattle.vt_steps.specs.promise.Rows.{rows_from}
+use Rattle.vt_steps.specs.promise.World.{Entry, LogicalProcess, Part, entry_events, triple_after, process_at}
+use Rattle.vt_steps.specs.promise.PartSteps.{is_below, ripe, ripe_rows, rows_of_commit}
+use Rattle.vt_steps.specs.promise.Next.{reached}
 use Rattle.vt_key.proofs.ListLemmas.{every-append, every-take, every-both, every-map}
 use Rattle.vt_steps.proofs.book.BookRows.{AreNotBefore}
 use Rattle.vt_steps.proofs.book.ReachedBooks.{reached-booked}

@@ -1,7 +1,7 @@
 -- The least of some floors.
 use Rattle.std.proofs.Common.{◌≤◌, List, [], ◌∷◌, arith}
-use Rattle.vt_key.specs.Times.{Time}
-use Rattle.vt_steps.specs.Letters.{least_of}
+use Rattle.vt_key.specs.promise.Times.{Time}
+use Rattle.vt_steps.specs.promise.Letters.{least_of}
 
 -- it is not after the end
 pub not-after-end : (end : Time) (floors : List Time) → least_of end floors ≤ end

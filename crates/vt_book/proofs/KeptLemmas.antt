@@ -6,15 +6,16 @@ use Rattle.std.proofs.lemmas.List.{map-append}
 use Rattle.std.proofs.lemmas.List.Elements.{filter-append}
 use Rattle.std.proofs.lemmas.List.Sums.{sum_by-cons, sum_by-append}
 use Rattle.std.proofs.lemmas.Bool.{and_parts}
-use Rattle.vt_key.specs.Times.{Time, time_before, time_at_most}
+use Rattle.vt_key.specs.promise.Times.{Time, time_before, time_at_most}
 use Rattle.vt_model.specs.declared.rows.Record.{Record}
 use Rattle.vt_model.specs.declared.rows.Row.{Row}
-use Rattle.vt_model.specs.Sequential.{rows_before, records_of}
-use Rattle.vt_steps.specs.BookSteps.{may_commit}
-use Rattle.vt_steps.specs.Rows.{rows_in_order, NoneBefore, AreSameRows}
-use Rattle.vt_steps.specs.Letters.{least_of}
-use Rattle.vt_book.specs.Books.{RunBook, is_within, are_within, may_hand}
-use Rattle.vt_book.specs.Kept.{IsKept}
+use Rattle.vt_model.specs.promise.Sequential.{rows_before, records_of}
+use Rattle.vt_steps.specs.promise.BookSteps.{may_commit}
+use Rattle.vt_steps.specs.promise.Rows.{rows_in_order}
+use Rattle.vt_steps.specs.inside.Rows.{NoneBefore, AreSameRows}
+use Rattle.vt_steps.specs.promise.Letters.{least_of}
+use Rattle.vt_book.specs.inside.Books.{RunBook, is_within, are_within, may_hand}
+use Rattle.vt_book.specs.inside.Kept.{IsKept}
 use Rattle.vt_steps.proofs.time.Floors.{floor-at}
 use Rattle.vt_book.proofs.RowLists.{same-list_all, same-before, same-none, one-order, first-in-order, every-before, late-rows, order-apart, before-twice}
 

@@ -1,3 +1,1 @@
-pub mod Books
-pub mod Kept
-pub mod Order
+pub mod inside

@@ -3,7 +3,7 @@
 ghost use Rattle.std.specs.Prelude.{◌≡◌, List, length, IfOk, IfErr};
 ghost use Rattle.vt_key.specs.declared.fault.Fault.TheVariants.{Memory};
 ghost use Rattle.vt_model.specs.declared.rows.Row.{Row as RowValue};
-ghost use Rattle.vt_steps.specs.Rows.{AreSameRows};
+ghost use Rattle.vt_steps.specs.inside.Rows.{AreSameRows};
 
 use std::alloc::Global;
 use std::marker::Model;
@@ -23,7 +23,7 @@ pub struct Batch {
 impl Model for Batch {
     ghost use Rattle.std.specs.Prelude.{List};
     ghost use Rattle.vt_model.specs.declared.rows.Row.{Row};
-    ghost use Rattle.vt_steps.specs.Rows.{AreSameRows};
+    ghost use Rattle.vt_steps.specs.inside.Rows.{AreSameRows};
 
     ghost Value = { List Row };
 

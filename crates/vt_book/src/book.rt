@@ -6,10 +6,10 @@ ghost use Rattle.vt_key.specs.declared.fault.Fault.TheVariants.{Memory, Exhauste
 ghost use Rattle.vt_key.specs.declared.limits.TheConstants.{MAX_WORKERS};
 ghost use Rattle.vt_model.specs.declared.rows.Record.{Record as RecordValue};
 ghost use Rattle.vt_model.specs.declared.rows.Row.{Row as RowValue};
-ghost use Rattle.vt_steps.specs.World.{opening_book, book_floor, book_records};
-ghost use Rattle.vt_steps.specs.Letters.{least_of};
-ghost use Rattle.vt_steps.specs.BookSteps.{with_rows, closed_book};
-ghost use Rattle.vt_book.specs.Books.{may_hand, are_within, is_within, refusal_of_hand, refusal_of_close};
+ghost use Rattle.vt_steps.specs.promise.World.{opening_book, book_floor, book_records};
+ghost use Rattle.vt_steps.specs.promise.Letters.{least_of};
+ghost use Rattle.vt_steps.specs.promise.BookSteps.{with_rows, closed_book};
+ghost use Rattle.vt_book.specs.inside.Books.{may_hand, are_within, is_within, refusal_of_hand, refusal_of_close};
 
 use crate::batch::Batch;
 use crate::floors::Floors;
@@ -41,9 +41,9 @@ pub struct Book {
 }
 
 impl Model for Book {
-    ghost use Rattle.vt_steps.specs.Letters.{least_of};
-    ghost use Rattle.vt_book.specs.Books.{RunBook};
-    ghost use Rattle.vt_book.specs.Kept.{IsBookInside};
+    ghost use Rattle.vt_steps.specs.promise.Letters.{least_of};
+    ghost use Rattle.vt_book.specs.inside.Books.{RunBook};
+    ghost use Rattle.vt_book.specs.inside.Kept.{IsBookInside};
 
     ghost Value = { RunBook };
 

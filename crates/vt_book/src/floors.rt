@@ -1,9 +1,9 @@
 //! The floors up to which workers have handed in.
 
 ghost use Rattle.std.specs.Prelude.{◌≡◌, ◌<◌, ◌≤◌, length, replicate, slice_get, slice_set};
-ghost use Rattle.vt_key.specs.Times.{opening_time};
+ghost use Rattle.vt_key.specs.promise.Times.{opening_time};
 ghost use Rattle.vt_key.specs.declared.limits.TheConstants.{MAX_WORKERS};
-ghost use Rattle.vt_steps.specs.Letters.{least_of};
+ghost use Rattle.vt_steps.specs.promise.Letters.{least_of};
 
 use std::marker::Model;
 use vt_key::{MAX_WORKERS, When};
@@ -17,7 +17,7 @@ pub(crate) struct Floors {
 
 impl Model for Floors {
     ghost use Rattle.std.specs.Prelude.{List, ◌≤◌, take};
-    ghost use Rattle.vt_key.specs.Times.{Time};
+    ghost use Rattle.vt_key.specs.promise.Times.{Time};
     ghost use Rattle.vt_key.specs.declared.limits.TheConstants.{MAX_WORKERS};
 
     ghost Value = { List Time };

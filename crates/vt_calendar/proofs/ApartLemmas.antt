@@ -6,15 +6,17 @@ use Rattle.std.proofs.lemmas.List.Sums.{sum_by-cons}
 use Rattle.std.proofs.lemmas.List.Sorted.{Contains-permutation, IsPermutation-refl, IsPermutation-sym, IsPermutation-trans, IsPermutation-cons, IsPermutation-middle, sum_by-IsPermutation}
 use Rattle.std.proofs.lemmas.Option.{slice_get-get_or}
 use Rattle.std.proofs.lemmas.Bool.{cases_Bool}
-use Rattle.vt_key.specs.Order.{RankBefore, rank_before, rank_same}
-use Rattle.vt_key.specs.Lists.{Among}
-use Rattle.vt_key.specs.Queues.{letter_rank, has_rank, holds_rank, insert_letter, without_first, IsRising, AllAfter}
+use Rattle.vt_key.specs.promise.Order.{rank_before, rank_same}
+use Rattle.vt_key.specs.inside.Order.{RankBefore}
+use Rattle.vt_key.specs.promise.Lists.{Among}
+use Rattle.vt_key.specs.promise.Queues.{letter_rank, has_rank, insert_letter, without_first}
+use Rattle.vt_key.specs.inside.Queues.{holds_rank, IsRising, AllAfter}
 use Rattle.vt_key.specs.declared.order.Rank.{Rank}
 use Rattle.vt_key.specs.declared.letter.Letter.{Letter}
 use Rattle.vt_key.proofs.ListLemmas.{get-among, every-among}
 use Rattle.vt_key.proofs.OrderLemmas.{rank-irreflexive, rank-transitive, rank-total, before-rank_before, rank_same-true, same-rank_same}
 use Rattle.vt_key.proofs.RisingLemmas.{IsRising-insert, first-false, second-false}
-use Rattle.vt_calendar.specs.Kept.{in_order, count_rank, AreApart, would_lead}
+use Rattle.vt_calendar.specs.inside.Kept.{in_order, count_rank, AreApart, would_lead}
 use Rattle.vt_calendar.proofs.OrderLemmas.{insert-leads, permuted-insert}
 
 among-contains : {X : Type 0} (d : X) (es : List X) → Among d es → Contains es d

@@ -1,8 +1,8 @@
 -- Slots by digits: in which one a time lies, and that it stays there once the present time is another one.
 use Rattle.std.proofs.Common.{◌≡◌, ◌≢◌, ℕ, zero, suc, ◌+◌, ◌-◌, ◌*◌, ◌/◌, ◌%◌, ◌<◌, ◌≤◌, ◌⊎◌, inl, inr, true, false, if◌then◌else◌, nat_eq, refl, sym, ap, ◌∙◌, subst, arith}
 use Rattle.std.proofs.lemmas.Bool.{eqb-true, eqb-false, eq-eqb}
-use Rattle.vt_key.specs.Times.{Time, TimeBefore, TimeAtMost, ticks_of, priority_of}
-use Rattle.vt_calendar.specs.Digits.{high_slot, slot_of, first_kept}
+use Rattle.vt_key.specs.promise.Times.{Time, TimeBefore, TimeAtMost, ticks_of, priority_of}
+use Rattle.vt_calendar.specs.inside.Digits.{high_slot, slot_of, first_kept}
 
 -- two numbers are one, or they aren't
 same-or-not : (a b : ℕ) → ((nat_eq a b ≡ true) × (a ≡ b)) ⊎ ((nat_eq a b ≡ false) × (a ≡ b → ⊥))

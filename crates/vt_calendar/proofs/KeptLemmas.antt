@@ -6,17 +6,18 @@ use Rattle.std.specs.List.Sorted.{IsPermutation}
 use Rattle.std.proofs.lemmas.Bool.{cases_order, cases_lt}
 use Rattle.std.proofs.lemmas.List.{append_assoc}
 use Rattle.std.proofs.lemmas.List.Sorted.{IsPermutation-refl, IsPermutation-sym, IsPermutation-trans, IsPermutation-append_left, IsPermutation-append_right, IsPermutation-middle}
-use Rattle.vt_key.specs.Times.{Time, TimeBefore, TimeAtMost, ticks_of, earlier}
-use Rattle.vt_key.specs.Order.{RankBefore}
-use Rattle.vt_key.specs.Lists.{Among}
-use Rattle.vt_key.specs.Queues.{letter_rank, holds_rank, insert_letter}
+use Rattle.vt_key.specs.promise.Times.{Time, TimeBefore, TimeAtMost, ticks_of, earlier}
+use Rattle.vt_key.specs.inside.Order.{RankBefore}
+use Rattle.vt_key.specs.promise.Lists.{Among}
+use Rattle.vt_key.specs.promise.Queues.{letter_rank, insert_letter}
+use Rattle.vt_key.specs.inside.Queues.{holds_rank}
 use Rattle.vt_key.specs.declared.order.Rank.{Rank}
 use Rattle.vt_key.specs.declared.letter.Letter.{Letter}
 use Rattle.vt_key.proofs.ListLemmas.{get-among, every-among, among-left, among-append}
 use Rattle.vt_key.proofs.OrderLemmas.{rank-irreflexive, rank-transitive, rank_before-true, before-rank_before}
-use Rattle.vt_calendar.specs.Digits.{slot_of, first_kept}
-use Rattle.vt_calendar.specs.Slots.{items_in, IsChanged, AreEmpty, AreMoved}
-use Rattle.vt_calendar.specs.Kept.{time_of, in_order, letters_kept, count_rank, would_lead, leads, earliest, AreOrdered, AreFrom, ArePlaced, AreSpread, IsKept}
+use Rattle.vt_calendar.specs.inside.Digits.{slot_of, first_kept}
+use Rattle.vt_calendar.specs.inside.Slots.{items_in, IsChanged, AreEmpty, AreMoved}
+use Rattle.vt_calendar.specs.inside.Kept.{time_of, in_order, letters_kept, count_rank, would_lead, leads, earliest, AreOrdered, AreFrom, ArePlaced, AreSpread, IsKept}
 use Rattle.vt_calendar.proofs.DigitLemmas.{slot-low, slot-opened, slot-kept}
 use Rattle.vt_calendar.proofs.OrderLemmas.{not-before-trans, permuted-insert, ordered-insert}
 use Rattle.vt_calendar.proofs.SlotLemmas.{set-found, items-put, items-taken, items-among, among-items, new-items}

@@ -8,10 +8,10 @@ use Rattle.std.proofs.lemmas.List.{append_assoc, append-nil, length-append, leng
 use Rattle.std.proofs.lemmas.Option.{slice_get-get_or}
 use Rattle.std.proofs.lemmas.List.Folds.{list_any-append}
 use Rattle.std.proofs.lemmas.List.Sorted.{length_permutation, IsPermutation-refl, IsPermutation-sym, IsPermutation-trans, IsPermutation-append_left, IsPermutation-append_right, IsPermutation-append_comm, IsPermutation-middle}
-use Rattle.vt_key.specs.Lists.{Among}
+use Rattle.vt_key.specs.promise.Lists.{Among}
 use Rattle.vt_key.proofs.RisingLemmas.{first-false, second-false}
 use Rattle.vt_key.proofs.ListLemmas.{among-left, among-right, among-append}
-use Rattle.vt_calendar.specs.Slots.{is_used, items_in, IsChanged, IsUsedAt}
+use Rattle.vt_calendar.specs.inside.Slots.{is_used, items_in, IsChanged, IsUsedAt}
 
 -- ---- new lists
 

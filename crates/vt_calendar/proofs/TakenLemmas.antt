@@ -4,16 +4,16 @@ use Rattle.std.specs.List.{list_any}
 use Rattle.std.specs.List.Sorted.{IsPermutation}
 use Rattle.std.proofs.lemmas.List.Folds.{list_any-append}
 use Rattle.std.proofs.lemmas.List.Sorted.{IsPermutation-refl, IsPermutation-append_left, list_any-IsPermutation}
-use Rattle.vt_key.specs.Times.{Time, TimeBefore, TimeAtMost}
-use Rattle.vt_key.specs.Lists.{Among, IsRisingBy}
-use Rattle.vt_key.specs.Queues.{letter_rank, has_rank, without_first}
+use Rattle.vt_key.specs.promise.Times.{Time, TimeBefore, TimeAtMost}
+use Rattle.vt_key.specs.promise.Lists.{Among, IsRisingBy}
+use Rattle.vt_key.specs.promise.Queues.{letter_rank, has_rank, without_first}
 use Rattle.vt_key.specs.declared.order.Rank.{Rank}
 use Rattle.vt_key.specs.declared.letter.Letter.{Letter}
 use Rattle.vt_key.proofs.ListLemmas.{every-without_first, find-passes, among-append}
 use Rattle.vt_key.proofs.OrderLemmas.{same-rank_same}
-use Rattle.vt_calendar.specs.Digits.{slot_of}
-use Rattle.vt_calendar.specs.Slots.{items_in, IsChanged}
-use Rattle.vt_calendar.specs.Kept.{time_of, in_order, letters_kept, count_rank, leads, AreOrdered, ArePlaced, AreSpread, IsKept, IsReady}
+use Rattle.vt_calendar.specs.inside.Digits.{slot_of}
+use Rattle.vt_calendar.specs.inside.Slots.{items_in, IsChanged}
+use Rattle.vt_calendar.specs.inside.Kept.{time_of, in_order, letters_kept, count_rank, leads, AreOrdered, ArePlaced, AreSpread, IsKept, IsReady}
 use Rattle.vt_calendar.proofs.SlotLemmas.{set-found, items-less, items-among}
 use Rattle.vt_calendar.proofs.ApartLemmas.{permuted-order, one-out, none-out, absent, found-out, not-found, none-passes}
 use Rattle.vt_calendar.proofs.KeptLemmas.{lacking, slots-late, kept-spread, none-late, taken-late, taken-present}

@@ -1,4 +1,1 @@
-pub mod Digits
-pub mod Slots
-pub mod Kept
-pub mod Order
+pub mod inside

@@ -3,13 +3,14 @@
 ghost use Rattle.std.specs.Prelude.{◌≡◌, ◌-◌, ◌<◌, ◌≤◌, ◌∷◌, [], false, find, slice_get, MatchOption, IfOk, IfErr};
 ghost use Rattle.std.specs.List.{list_any};
 ghost use Rattle.std.specs.Option.{option_map};
-ghost use Rattle.vt_key.specs.Queues.{letter_rank, has_rank, holds_rank, insert_letter, without_first, IsRising};
+ghost use Rattle.vt_key.specs.promise.Queues.{letter_rank, has_rank, insert_letter, without_first};
+ghost use Rattle.vt_key.specs.inside.Queues.{holds_rank, IsRising};
 ghost use Rattle.vt_key.specs.declared.fault.Fault.TheVariants.{Memory};
-ghost use Rattle.vt_key.specs.Lists.{Among};
-ghost use Rattle.vt_key.specs.Times.{ticks_of};
+ghost use Rattle.vt_key.specs.promise.Lists.{Among};
+ghost use Rattle.vt_key.specs.promise.Times.{ticks_of};
 ghost use Rattle.vt_calendar.specs.declared.digits.TheConstants.{LOW_SLOTS};
-ghost use Rattle.vt_calendar.specs.Slots.{items_in};
-ghost use Rattle.vt_calendar.specs.Kept.{time_of, earliest, leads, in_order, letters_kept, ArePlaced, AreFrom, AreSpread, IsKept, IsReady};
+ghost use Rattle.vt_calendar.specs.inside.Slots.{items_in};
+ghost use Rattle.vt_calendar.specs.inside.Kept.{time_of, earliest, leads, in_order, letters_kept, ArePlaced, AreFrom, AreSpread, IsKept, IsReady};
 
 use crate::digits::{LOW_SLOTS, first_kept, slot_of};
 use crate::order::{Buckets, insert, put_in_front, would_lead};
@@ -48,7 +49,7 @@ pub struct Calendar<P: Copy> {
 impl<P: Copy> Model for Calendar<P> {
     ghost use Rattle.std.specs.Prelude.{◌≡◌, List, []};
     ghost use Rattle.vt_key.specs.declared.letter.Letter.{Letter};
-    ghost use Rattle.vt_calendar.specs.Kept.{in_order, letters_kept, IsKept};
+    ghost use Rattle.vt_calendar.specs.inside.Kept.{in_order, letters_kept, IsKept};
 
     ghost Value = { List (Letter P) };
 

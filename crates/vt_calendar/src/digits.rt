@@ -1,7 +1,7 @@
 //! The slots of times, by the digits of their ticks.
 
 ghost use Rattle.std.specs.Prelude.{◌≡◌, ◌<◌, ◌≤◌, ◌+◌, ◌*◌, ◌^◌};
-ghost use Rattle.vt_calendar.specs.Digits.{slot_of, high_slot, first_kept};
+ghost use Rattle.vt_calendar.specs.inside.Digits.{slot_of, high_slot, first_kept};
 
 use vt_key::When;
 

@@ -3,16 +3,16 @@ use Rattle.std.proofs.Common.{◌≡◌, ℕ, true, false, cond, List, [], ◌++
 use Rattle.std.specs.Option.{option_map}
 use Rattle.vt_key.specs.declared.letter.Mail.{Mail}
 use Rattle.vt_key.specs.declared.fault.Fault.TheVariants.{NotLawful, Closed}
-use Rattle.vt_model.specs.Simulation.{Simulation}
+use Rattle.vt_model.specs.promise.Simulation.{Simulation}
 use Rattle.vt_steps.specs.declared.step.Step.TheVariants.{Send, Fetch, Cut, Report, Commit, Close}
 use Rattle.vt_steps.specs.declared.step.Reply.TheVariants.{Done}
-use Rattle.vt_steps.specs.Letters.{is_empty}
-use Rattle.vt_steps.specs.World.{Part, Board, Book}
-use Rattle.vt_steps.specs.PartSteps.{part_after_send, mail_of_send, part_after_fetch, part_after_cut, report_sent, report_got, report_least, part_after_commit, rows_of_commit}
-use Rattle.vt_steps.specs.BoardSteps.{cut_board, may_report, with_report}
-use Rattle.vt_steps.specs.BookSteps.{may_commit, with_rows, may_close, closed_book}
-use Rattle.vt_steps.specs.CellSteps.{may_send, send, fetch, cut, reported, report, commit, close}
-use Rattle.vt_steps.specs.Cells.{in_inbox, on_board, in_book, Acted, left_alone, acted_at, acted_close, act}
+use Rattle.vt_steps.specs.promise.Letters.{is_empty}
+use Rattle.vt_steps.specs.promise.World.{Part, Board, Book}
+use Rattle.vt_steps.specs.promise.PartSteps.{part_after_send, mail_of_send, part_after_fetch, part_after_cut, report_sent, report_got, report_least, part_after_commit, rows_of_commit}
+use Rattle.vt_steps.specs.promise.BoardSteps.{cut_board, may_report, with_report}
+use Rattle.vt_steps.specs.promise.BookSteps.{may_commit, with_rows, may_close, closed_book}
+use Rattle.vt_steps.specs.promise.CellSteps.{may_send, send, fetch, cut, reported, report, commit, close}
+use Rattle.vt_steps.specs.inside.Cells.{in_inbox, on_board, in_book, Acted, left_alone, acted_at, acted_close, act}
 use Rattle.vt_steps.proofs.steps.Outcomes.{unless_closed-open, unless_closed-shut}
 
 module _ {S P : Type 0} (sim : Simulation S P) where

@@ -2,29 +2,29 @@
 use Rattle.std.proofs.Common.{◌≡◌, ℕ, ◌<◌, ◌≤◌, ◌⊎◌, inl, inr, Bool, true, false, ◌&&◌, refl, sym, ◌∙◌, ap, subst, arith, Option, Some, None, Ok, Err, nat_le, if◌then◌else◌}
 use Rattle.std.proofs.lemmas.Bool.Decides.{nat_tests}
 use Rattle.std.proofs.lemmas.Bool.{and_parts}
-use Rattle.vt_key.specs.Letters.{other_colour}
-use Rattle.vt_key.specs.Times.{Time, TimeAtMost, time_at_most, earlier}
+use Rattle.vt_key.specs.promise.Letters.{other_colour}
+use Rattle.vt_key.specs.promise.Times.{Time, TimeAtMost, time_at_most, earlier}
 use Rattle.vt_key.specs.declared.fault.Fault.{Fault}
 use Rattle.vt_key.specs.declared.fault.Fault.TheVariants.{NotLawful, Exhausted}
 use Rattle.vt_key.specs.declared.limits.TheConstants.{MAX_COUNT}
-use Rattle.vt_model.specs.Handler.{Handlers}
-use Rattle.vt_model.specs.Simulation.{simulation_of}
-use Rattle.vt_model.specs.Settings.{end_of}
+use Rattle.vt_model.specs.promise.Handler.{Handlers}
+use Rattle.vt_model.specs.promise.Simulation.{simulation_of}
+use Rattle.vt_model.specs.promise.Settings.{end_of}
 use Rattle.vt_steps.specs.declared.step.Step.TheVariants.{Cut, Report}
 use Rattle.vt_steps.specs.declared.step.Reply.{Reply}
 use Rattle.vt_steps.specs.declared.step.Reply.TheVariants.{Done}
-use Rattle.vt_steps.specs.Letters.{count_of, least_time}
-use Rattle.vt_steps.specs.World.{Part, Board}
-use Rattle.vt_steps.specs.PartSteps.{part_after_cut, report_sent, report_got, report_least}
-use Rattle.vt_steps.specs.BoardSteps.{cut_board, may_report, with_report, after_report}
-use Rattle.vt_steps.specs.Cells.{on_board, Acted}
-use Rattle.vt_board.specs.Calls.{round_counted, cut_outcome, takes_report}
-use Rattle.vt_kernel.specs.Held.{HeldWorker, StandsFor}
-use Rattle.vt_kernel.specs.Guards.{held_letters}
+use Rattle.vt_steps.specs.promise.Letters.{count_of, least_time}
+use Rattle.vt_steps.specs.promise.World.{Part, Board}
+use Rattle.vt_steps.specs.promise.PartSteps.{part_after_cut, report_sent, report_got, report_least}
+use Rattle.vt_steps.specs.promise.BoardSteps.{cut_board, may_report, with_report, after_report}
+use Rattle.vt_steps.specs.inside.Cells.{on_board, Acted}
+use Rattle.vt_board.specs.inside.Calls.{round_counted, cut_outcome, takes_report}
+use Rattle.vt_kernel.specs.inside.Held.{HeldWorker, StandsFor}
+use Rattle.vt_kernel.specs.inside.Guards.{held_letters}
 use Rattle.vt_kernel.proofs.ReportLemmas.{same-report}
 use Rattle.vt_kernel.proofs.TimeLemmas.{least_time-low}
-use Rattle.vt_kernel.specs.Refusals.{PassesIn}
-use Rattle.vt_cells.specs.Calls.{IsCellStepOf, rounds_of}
+use Rattle.vt_kernel.specs.promise.Refusals.{PassesIn}
+use Rattle.vt_cells.specs.inside.Calls.{IsCellStepOf, rounds_of}
 use Rattle.vt_cells.proofs.ActLemmas.{act-cut, act-not_cut, act_report, act-report, act-not_report}
 
 -- what a cut comes to, by what the board says: it is counted, and its rounds are within their limit

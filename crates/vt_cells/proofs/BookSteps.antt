@@ -6,29 +6,29 @@ use Rattle.std.proofs.Props.{props}
 use Rattle.std.proofs.lemmas.Bool.Decides.{nat_tests}
 use Rattle.std.proofs.lemmas.Option.{slice_get_within}
 use Rattle.std.proofs.lemmas.Bool.{and_from}
-use Rattle.vt_key.specs.Times.{Time, TimeAtMost, time_at_most, time_before}
+use Rattle.vt_key.specs.promise.Times.{Time, TimeAtMost, time_at_most, time_before}
 use Rattle.vt_key.specs.declared.fault.Fault.{Fault}
 use Rattle.vt_key.specs.declared.fault.Fault.TheVariants.{Memory, Closed}
 use Rattle.vt_model.specs.declared.rows.Row.{Row}
 use Rattle.vt_model.specs.declared.settings.Config.{Config}
-use Rattle.vt_model.specs.Handler.{Handlers}
-use Rattle.vt_model.specs.Histories.{IsLawful}
-use Rattle.vt_model.specs.Simulation.{Simulation, simulation_of}
-use Rattle.vt_model.specs.Settings.{end_of}
+use Rattle.vt_model.specs.promise.Handler.{Handlers}
+use Rattle.vt_model.specs.promise.Histories.{IsLawful}
+use Rattle.vt_model.specs.promise.Simulation.{Simulation, simulation_of}
+use Rattle.vt_model.specs.promise.Settings.{end_of}
 use Rattle.vt_steps.specs.declared.step.Step.TheVariants.{Commit, Close}
 use Rattle.vt_steps.specs.declared.step.Reply.{Reply}
 use Rattle.vt_steps.specs.declared.step.Reply.TheVariants.{Done}
-use Rattle.vt_steps.specs.World.{Part, Book}
-use Rattle.vt_steps.specs.PartSteps.{part_after_commit, rows_of_commit}
-use Rattle.vt_steps.specs.BookSteps.{may_commit, with_rows, may_close, closed_book}
-use Rattle.vt_steps.specs.Next.{reached}
-use Rattle.vt_steps.specs.Cells.{Cell, Acted, in_book, left_alone, act}
+use Rattle.vt_steps.specs.promise.World.{Part, Book}
+use Rattle.vt_steps.specs.promise.PartSteps.{part_after_commit, rows_of_commit}
+use Rattle.vt_steps.specs.promise.BookSteps.{may_commit, with_rows, may_close, closed_book}
+use Rattle.vt_steps.specs.promise.Next.{reached}
+use Rattle.vt_steps.specs.inside.Cells.{Cell, Acted, in_book, left_alone, act}
 use Rattle.vt_steps.proofs.time.Floors.{AreTimesSound, reached-times}
 use Rattle.vt_steps.proofs.lists.Places.{get-within}
-use Rattle.vt_kernel.specs.Held.{HeldWorker, StandsFor}
-use Rattle.vt_book.specs.Books.{RunBook, may_hand, is_within, are_within, refusal_of_hand, refusal_where}
+use Rattle.vt_kernel.specs.inside.Held.{HeldWorker, StandsFor}
+use Rattle.vt_book.specs.inside.Books.{RunBook, may_hand, is_within, are_within, refusal_of_hand, refusal_where}
 use Rattle.vt_book.proofs.CommitRows.{IsBetween, commit-between}
-use Rattle.vt_cells.specs.Calls.{Acts, IsCellStepOf, IsBatchOf, AreReached, AreOfOneWorld, CommitsTo, IsHandInOf, IsClosingRefusal}
+use Rattle.vt_cells.specs.inside.Calls.{Acts, IsCellStepOf, IsBatchOf, AreReached, AreOfOneWorld, CommitsTo, IsHandInOf, IsClosingRefusal}
 use Rattle.vt_cells.proofs.ActLemmas.{act-commit, act-commit_closed, act-close, act-not_close, act-close_closed}
 
 -- rows that lie between two times, tested

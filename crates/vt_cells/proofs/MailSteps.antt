@@ -3,20 +3,20 @@ use Rattle.std.proofs.Common.{◌≡◌, ℕ, ◌+◌, inl, inr, true, List, [],
 use Rattle.vt_key.specs.declared.letter.Colour.TheVariants.{White, Red}
 use Rattle.vt_key.specs.declared.letter.Mail.{Mail}
 use Rattle.vt_key.specs.declared.fault.Fault.{Fault}
-use Rattle.vt_model.specs.Handler.{Handlers}
-use Rattle.vt_model.specs.Simulation.{Simulation, simulation_of}
+use Rattle.vt_model.specs.promise.Handler.{Handlers}
+use Rattle.vt_model.specs.promise.Simulation.{Simulation, simulation_of}
 use Rattle.vt_steps.specs.declared.step.Step.TheVariants.{Send, Fetch}
 use Rattle.vt_steps.specs.declared.step.Reply.TheVariants.{Done}
-use Rattle.vt_steps.specs.Letters.{Counts, count_colour, is_empty}
-use Rattle.vt_steps.specs.World.{Part}
-use Rattle.vt_steps.specs.PartSteps.{part_after_send, mail_of_send, part_after_fetch}
-use Rattle.vt_steps.specs.Cells.{in_inbox, Acted}
-use Rattle.vt_steps.specs.CellSteps.{may_send}
-use Rattle.vt_kernel.specs.Held.{HeldWorker, StandsFor, AreCounted}
-use Rattle.vt_kernel.specs.Guards.{IsSendRefusal}
-use Rattle.vt_kernel.specs.Refusals.{PassesIn}
-use Rattle.vt_kernel.specs.Steps.{IsTakeRefusal}
-use Rattle.vt_cells.specs.Calls.{IsCellRefusal, IsCellStepOf, rounds_of}
+use Rattle.vt_steps.specs.promise.Letters.{Counts, count_colour, is_empty}
+use Rattle.vt_steps.specs.promise.World.{Part}
+use Rattle.vt_steps.specs.promise.PartSteps.{part_after_send, mail_of_send, part_after_fetch}
+use Rattle.vt_steps.specs.inside.Cells.{in_inbox, Acted}
+use Rattle.vt_steps.specs.promise.CellSteps.{may_send}
+use Rattle.vt_kernel.specs.inside.Held.{HeldWorker, StandsFor, AreCounted}
+use Rattle.vt_kernel.specs.inside.Guards.{IsSendRefusal}
+use Rattle.vt_kernel.specs.promise.Refusals.{PassesIn}
+use Rattle.vt_kernel.specs.inside.Steps.{IsTakeRefusal}
+use Rattle.vt_cells.specs.inside.Calls.{IsCellRefusal, IsCellStepOf, rounds_of}
 use Rattle.vt_cells.proofs.ActLemmas.{act-send, act-not_send, act-fetch, act-not_fetch}
 
 module _ {S P : Type 0} (sim : Simulation S P) where

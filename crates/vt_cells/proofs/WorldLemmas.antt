@@ -2,20 +2,21 @@
 use Rattle.std.proofs.Common.{◌≡◌, ℕ, ◌<◌, inl, inr, refl, sym, ◌∙◌, ap, subst, Option, Some, None, slice_get}
 use Rattle.vt_key.specs.declared.fault.Fault.{Fault}
 use Rattle.vt_key.specs.declared.limits.TheConstants.{MAX_COUNT}
-use Rattle.vt_model.specs.Simulation.{Simulation}
+use Rattle.vt_model.specs.promise.Simulation.{Simulation}
 use Rattle.vt_steps.specs.declared.step.Step.{Step}
 use Rattle.vt_steps.specs.declared.step.Step.TheVariants.{Execute, Undo, Cancel, Home, Send, Fetch, Accept, Cut, Report, Commit, Close}
-use Rattle.vt_steps.specs.World.{Part, World, Board}
-use Rattle.vt_steps.specs.CellSteps.{CellEffect, cut}
-use Rattle.vt_steps.specs.Next.{Outcome, next, with_part}
-use Rattle.vt_steps.specs.Cells.{CellName, board_cell, Cell, on_board, content, with_content, worker_of, cell_of, acted_at, act, put_back}
-use Rattle.vt_steps.specs.Laws.{IsAny}
+use Rattle.vt_steps.specs.promise.World.{Part, World, Board}
+use Rattle.vt_steps.specs.promise.CellSteps.{CellEffect, cut}
+use Rattle.vt_steps.specs.promise.Next.{Outcome, next, with_part}
+use Rattle.vt_steps.specs.promise.Cells.{worker_of}
+use Rattle.vt_steps.specs.inside.Cells.{CellName, board_cell, Cell, on_board, content, with_content, cell_of, acted_at, act, put_back}
+use Rattle.vt_steps.specs.inside.Laws.{IsAny}
 use Rattle.vt_steps.proofs.steps.CellLemmas.{next-acts_on_one_cell}
 use Rattle.vt_steps.proofs.steps.LocalLeads.{parts-put}
 use Rattle.vt_steps.proofs.lists.Places.{get-put_same}
-use Rattle.vt_kernel.specs.Refusals.{PassesIn, PassesLimit, IsStepRefusal}
+use Rattle.vt_kernel.specs.promise.Refusals.{PassesIn, PassesLimit, IsStepRefusal}
 use Rattle.vt_kernel.proofs.LimitLemmas.{passes-world, passes-part}
-use Rattle.vt_cells.specs.Calls.{rounds_of, IsCellRefusal}
+use Rattle.vt_cells.specs.inside.Calls.{rounds_of, IsCellRefusal}
 
 -- each of two follows from the other
 abbrev pub Both : Type 0 → Type 0 → Type 0

@@ -2,14 +2,14 @@
 
 ghost use Rattle.std.specs.Prelude.{◌≡◌, false, IfOk, IfErr, MatchResult};
 ghost use Rattle.vt_key.specs.declared.fault.Fault.TheVariants.{Memory};
-ghost use Rattle.vt_model.specs.Handler.{Handlers};
-ghost use Rattle.vt_model.specs.Simulation.{Simulation, simulation_of};
-ghost use Rattle.vt_model.specs.Settings.{end_of};
+ghost use Rattle.vt_model.specs.promise.Handler.{Handlers};
+ghost use Rattle.vt_model.specs.promise.Simulation.{Simulation, simulation_of};
+ghost use Rattle.vt_model.specs.promise.Settings.{end_of};
 ghost use Rattle.vt_steps.specs.declared.step.Step.TheVariants as step;
 ghost use Rattle.vt_steps.specs.declared.step.Reply.TheVariants.{Done};
-ghost use Rattle.vt_steps.specs.World.{Part, book_floor};
-ghost use Rattle.vt_steps.specs.Cells.{in_book, act};
-ghost use Rattle.vt_cells.specs.Calls.{IsBatchOf, AreOfOneWorld, IsHandInOf, IsHandInRefusal, IsClosingRefusal, IsCellStepOf};
+ghost use Rattle.vt_steps.specs.promise.World.{Part, book_floor};
+ghost use Rattle.vt_steps.specs.inside.Cells.{in_book, act};
+ghost use Rattle.vt_cells.specs.inside.Calls.{IsBatchOf, AreOfOneWorld, IsHandInOf, IsHandInRefusal, IsClosingRefusal, IsCellStepOf};
 
 use std::alloc::Global;
 use vt_book::{Batch, Book};

@@ -1,18 +1,18 @@
 //! Cut and Report, on a kernel and the board.
 
 ghost use Rattle.std.specs.Prelude.{◌≡◌, Ok, Err, IfOk, IfErr, MatchResult, is_ok};
-ghost use Rattle.vt_key.specs.Letters.{other_colour};
+ghost use Rattle.vt_key.specs.promise.Letters.{other_colour};
 ghost use Rattle.vt_key.specs.declared.fault.Fault.TheVariants.{NotLawful};
-ghost use Rattle.vt_key.specs.Times.{earlier};
-ghost use Rattle.vt_model.specs.Handler.{Handlers};
-ghost use Rattle.vt_model.specs.Settings.{end_of};
+ghost use Rattle.vt_key.specs.promise.Times.{earlier};
+ghost use Rattle.vt_model.specs.promise.Handler.{Handlers};
+ghost use Rattle.vt_model.specs.promise.Settings.{end_of};
 ghost use Rattle.vt_steps.specs.declared.step.Step.TheVariants as step;
 ghost use Rattle.vt_steps.specs.declared.step.Reply.TheVariants.{Done};
-ghost use Rattle.vt_steps.specs.Letters.{count_of, least_time};
-ghost use Rattle.vt_steps.specs.Cells.{on_board};
-ghost use Rattle.vt_kernel.specs.Guards.{held_letters};
-ghost use Rattle.vt_board.specs.Calls.{cut_outcome, takes_report, reply_of};
-ghost use Rattle.vt_cells.specs.Calls.{IsCellStepOf, answer_of};
+ghost use Rattle.vt_steps.specs.promise.Letters.{count_of, least_time};
+ghost use Rattle.vt_steps.specs.inside.Cells.{on_board};
+ghost use Rattle.vt_kernel.specs.inside.Guards.{held_letters};
+ghost use Rattle.vt_board.specs.inside.Calls.{cut_outcome, takes_report, reply_of};
+ghost use Rattle.vt_cells.specs.inside.Calls.{IsCellStepOf, answer_of};
 
 use vt_board::{Board, Report};
 use vt_kernel::Kernel;

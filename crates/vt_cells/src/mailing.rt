@@ -1,16 +1,16 @@
 //! Send and Fetch, on a kernel and an inbox.
 
 ghost use Rattle.std.specs.Prelude.{◌≡◌, [], IfOk, IfErr};
-ghost use Rattle.vt_model.specs.Handler.{Handlers};
-ghost use Rattle.vt_model.specs.Simulation.{simulation_of};
+ghost use Rattle.vt_model.specs.promise.Handler.{Handlers};
+ghost use Rattle.vt_model.specs.promise.Simulation.{simulation_of};
 ghost use Rattle.vt_steps.specs.declared.step.Step.TheVariants as step;
 ghost use Rattle.vt_steps.specs.declared.step.Reply.TheVariants.{Done};
-ghost use Rattle.vt_steps.specs.World.{Part};
-ghost use Rattle.vt_steps.specs.Cells.{in_inbox};
-ghost use Rattle.vt_kernel.specs.Held.{StandsFor, AllOwnMail};
-ghost use Rattle.vt_kernel.specs.Guards.{IsSendRefusal};
-ghost use Rattle.vt_kernel.specs.Steps.{IsTakeRefusal};
-ghost use Rattle.vt_cells.specs.Calls.{IsCellStepOf};
+ghost use Rattle.vt_steps.specs.promise.World.{Part};
+ghost use Rattle.vt_steps.specs.inside.Cells.{in_inbox};
+ghost use Rattle.vt_kernel.specs.inside.Held.{StandsFor, AllOwnMail};
+ghost use Rattle.vt_kernel.specs.inside.Guards.{IsSendRefusal};
+ghost use Rattle.vt_kernel.specs.inside.Steps.{IsTakeRefusal};
+ghost use Rattle.vt_cells.specs.inside.Calls.{IsCellStepOf};
 
 use vt_kernel::Kernel;
 use vt_key::{Fault, Mail};

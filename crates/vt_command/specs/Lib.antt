@@ -1,4 +1,2 @@
-pub mod Table
-pub mod Line
-pub mod Requests
-pub mod Defaults
+pub mod promise
+pub mod inside

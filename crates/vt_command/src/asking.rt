@@ -1,10 +1,11 @@
 //! Requests: what a command line asks for.
 
 ghost use Rattle.std.specs.Prelude.{IfOk, IfErr, IfSome, map, codes, string_bytes};
-ghost use Rattle.vt_options.specs.Asked.{IsAsked};
-ghost use Rattle.vt_options.specs.Hints.{IsHintOn, TellsTurns};
-ghost use Rattle.vt_command.specs.Table.{twarp_models};
-ghost use Rattle.vt_command.specs.Requests.{IsRefusedBy, twarp_line};
+ghost use Rattle.vt_options.specs.inside.Asked.{IsAsked};
+ghost use Rattle.vt_options.specs.inside.Hints.{IsHintOn, TellsTurns};
+ghost use Rattle.vt_command.specs.promise.Table.{twarp_models};
+ghost use Rattle.vt_command.specs.promise.Requests.{twarp_line};
+ghost use Rattle.vt_command.specs.inside.Requests.{IsRefusedBy};
 
 use crate::table::{MODELS, TEXTS};
 use std::alloc::Global;

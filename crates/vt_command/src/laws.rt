@@ -2,9 +2,10 @@
 
 ghost use Rattle.std.specs.Prelude.{◌≡◌, [], ◌∷◌, ◌++◌, Some, None, codes, map};
 ghost use Rattle.clap.specs.Words.{Text};
-ghost use Rattle.vt_command.specs.Line.{all_given_in, given_in, run_options, replay_options, line_with};
-ghost use Rattle.vt_command.specs.Requests.{AreOfRun, AreOfReplay, AskHelp, AskRun, AskReplay, HasBadOption, HasNoMeaning};
-ghost use Rattle.vt_command.specs.Defaults.{default_settings, default_replay_settings, default_hop, default_phold, default_stations};
+ghost use Rattle.vt_command.specs.inside.Line.{all_given_in, given_in, run_options, replay_options, line_with};
+ghost use Rattle.vt_command.specs.promise.Requests.{AskHelp};
+ghost use Rattle.vt_command.specs.inside.Requests.{AreOfRun, AreOfReplay, AskRun, AskReplay, HasBadOption, HasNoMeaning};
+ghost use Rattle.vt_command.specs.inside.Defaults.{default_settings, default_replay_settings, default_hop, default_phold, default_stations};
 
 /// A line without options, or with a model's name alone, is a run or a replay with the defaults.
 pub fn defaults_are_read()

@@ -1,8 +1,8 @@
 //! The models of `twarp` with their options, and what its help shows.
 
 ghost use Rattle.std.specs.Prelude.{◌≡◌, codes};
-ghost use Rattle.vt_options.specs.Own.{AllHaveDefaults, models_of};
-ghost use Rattle.vt_command.specs.Table.{twarp_models};
+ghost use Rattle.vt_options.specs.inside.Own.{AllHaveDefaults, models_of};
+ghost use Rattle.vt_command.specs.promise.Table.{twarp_models};
 
 use vt_models::{
     MAX_DELAY, MAX_HOPS, MAX_JOBS, MAX_LOOKAHEAD, MAX_POPULATION, MAX_REMOTE, MAX_RISE,

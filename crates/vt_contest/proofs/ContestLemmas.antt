@@ -8,16 +8,16 @@ use Rattle.std.proofs.lemmas.List.Elements.{All-set}
 use Rattle.std.proofs.lemmas.Option.{slice_get_within, get_or_from_slice_get, slice_get-map}
 use Rattle.vt_key.specs.declared.order.Rank.{Rank}
 use Rattle.vt_model.specs.declared.settings.Config.{Config}
-use Rattle.vt_model.specs.Settings.{end_of}
-use Rattle.vt_steps.specs.Letters.{least_time, is_empty}
+use Rattle.vt_model.specs.promise.Settings.{end_of}
+use Rattle.vt_steps.specs.promise.Letters.{least_time, is_empty}
 use Rattle.vt_tournament.specs.declared.node.Node.{Node}
-use Rattle.vt_tournament.specs.Contest.{IsTournamentOf, WasTournamentOf}
-use Rattle.vt_lp.specs.Held.{HeldProcess}
-use Rattle.vt_lp.specs.Guards.{TellsSame}
+use Rattle.vt_tournament.specs.inside.Contest.{IsTournamentOf, WasTournamentOf}
+use Rattle.vt_lp.specs.inside.Held.{HeldProcess}
+use Rattle.vt_lp.specs.inside.Guards.{TellsSame}
 use Rattle.vt_past.specs.declared.event.PastEvent.{PastEvent}
 use Rattle.vt_contest.specs.declared.contest.Contest.{Contest}
-use Rattle.vt_contest.specs.Entries.{entries_of, ready_of, unready_of, other_rank, earliest_of, rank_time, has_past, AreMarked, TellsLeast}
-use Rattle.vt_contest.specs.Contest.{IsContestOf, WasContestOf, AreReady, AreUnready, past_marks}
+use Rattle.vt_contest.specs.inside.Entries.{entries_of, ready_of, unready_of, other_rank, earliest_of, rank_time, has_past, AreMarked, TellsLeast}
+use Rattle.vt_contest.specs.inside.Contest.{IsContestOf, WasContestOf, AreReady, AreUnready, past_marks}
 use Rattle.vt_contest.proofs.Written.{put-back, get-all}
 use Rattle.vt_contest.proofs.EntryLemmas.{entered-changed, entries-kept}
 

@@ -4,9 +4,9 @@ use Rattle.std.specs.Option.{option_map}
 use Rattle.std.proofs.lemmas.List.{map-set}
 use Rattle.std.proofs.lemmas.Option.{slice_get_within, get_or_from_slice_get, slice_get-map}
 use Rattle.vt_key.specs.declared.order.Rank.{Rank}
-use Rattle.vt_steps.specs.Letters.{is_empty}
-use Rattle.vt_lp.specs.Held.{HeldProcess}
-use Rattle.vt_contest.specs.Entries.{entries_of, has_past}
+use Rattle.vt_steps.specs.promise.Letters.{is_empty}
+use Rattle.vt_lp.specs.inside.Held.{HeldProcess}
+use Rattle.vt_contest.specs.inside.Entries.{entries_of, has_past}
 use Rattle.vt_contest.proofs.Written.{put-there}
 
 module _ {S P K : Type 0} (entry : HeldProcess S P K → Option Rank) where

@@ -3,12 +3,12 @@ use Rattle.std.proofs.Common.{◌≡◌, ◌∙◌, ℕ, List, [], ◌∷◌, �
 use Rattle.std.specs.List.{All}
 use Rattle.std.proofs.lemmas.List.Elements.{All-head, All-tail}
 use Rattle.vt_key.specs.declared.order.Rank.{Rank}
-use Rattle.vt_model.specs.Settings.{end_of}
-use Rattle.vt_steps.specs.Letters.{least_time, is_empty}
-use Rattle.vt_lp.specs.Held.{HeldProcess}
-use Rattle.vt_lp.specs.Guards.{ready_rank, lesser_rank}
-use Rattle.vt_contest.specs.Entries.{entries_of, ready_of, earliest_of, unready_of, other_rank, rank_time, has_past, AreMarked, TellsLeast}
-use Rattle.vt_contest.specs.Contest.{IsIdle}
+use Rattle.vt_model.specs.promise.Settings.{end_of}
+use Rattle.vt_steps.specs.promise.Letters.{least_time, is_empty}
+use Rattle.vt_lp.specs.inside.Held.{HeldProcess}
+use Rattle.vt_lp.specs.inside.Guards.{ready_rank, lesser_rank}
+use Rattle.vt_contest.specs.inside.Entries.{entries_of, ready_of, earliest_of, unready_of, other_rank, rank_time, has_past, AreMarked, TellsLeast}
+use Rattle.vt_contest.specs.inside.Contest.{IsIdle}
 
 -- what is one value for each is that value as often as there are any
 map-one : {S P K Y : Type 0} (f : HeldProcess S P K → Y) (y : Y) → ((held : HeldProcess S P K) → IsIdle held → f held ≡ y) → (xs : List (HeldProcess S P K)) → All IsIdle xs → replicate (length xs) y ≡ map f xs

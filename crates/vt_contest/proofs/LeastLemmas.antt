@@ -1,19 +1,19 @@
 -- The least time of all letters of processes, by the two tournaments.
 use Rattle.std.proofs.Common.{◌≡◌, ◌∙◌, ℕ, zero, suc, List, [], ◌∷◌, ◌++◌, ◌⊎◌, inl, inr, Bool, true, false, if◌then◌else◌, Option, Some, None, IfSome, IfNone, slice_get, refl, sym, ap, subst}
 use Rattle.std.specs.List.{All, flat_map}
-use Rattle.vt_key.specs.Times.{Time, TimeAtMost, earlier}
-use Rattle.vt_key.specs.Order.{rank_same}
+use Rattle.vt_key.specs.promise.Times.{Time, TimeAtMost, earlier}
+use Rattle.vt_key.specs.promise.Order.{rank_same}
 use Rattle.vt_key.proofs.OrderLemmas.{rank_same-true}
 use Rattle.vt_key.specs.declared.order.Rank.{Rank}
 use Rattle.vt_key.specs.declared.letter.Letter.{Letter}
-use Rattle.vt_model.specs.Settings.{end_of}
+use Rattle.vt_model.specs.promise.Settings.{end_of}
 use Rattle.std.specs.List.{last_or}
 use Rattle.std.proofs.lemmas.Option.{same_Some}
-use Rattle.vt_steps.specs.Letters.{letter_time, least_time}
-use Rattle.vt_tournament.specs.Least.{IsLeast}
-use Rattle.vt_lp.specs.Held.{HeldProcess}
-use Rattle.vt_lp.specs.Guards.{ready_rank, may_come_after}
-use Rattle.vt_contest.specs.Entries.{TellsLeast, ready_of, earliest_of, unready_of, other_rank, entries_of, rank_time}
+use Rattle.vt_steps.specs.promise.Letters.{letter_time, least_time}
+use Rattle.vt_tournament.specs.inside.Least.{IsLeast}
+use Rattle.vt_lp.specs.inside.Held.{HeldProcess}
+use Rattle.vt_lp.specs.inside.Guards.{ready_rank, may_come_after}
+use Rattle.vt_contest.specs.inside.Entries.{TellsLeast, ready_of, earliest_of, unready_of, other_rank, entries_of, rank_time}
 use Rattle.vt_contest.proofs.Written.{get-all}
 use Rattle.vt_contest.proofs.EntryLemmas.{entered-at}
 use Rattle.vt_steps.proofs.TimeLemmas.{least_time-low, least_time-append, same_low, same_times, at_most_both, earlier_low, earlier_low_right, not_before, at_most_chain}

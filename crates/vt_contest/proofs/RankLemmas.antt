@@ -1,17 +1,17 @@
 -- The ranks that a process enters: where no anti-message waits, and where past events are forgotten.
 use Rattle.std.proofs.Common.{◌≡◌, ◌∙◌, ◌⊎◌, inl, inr, Bool, true, false, if◌then◌else◌, ℕ, List, [], ◌∷◌, refl, sym, ap, subst, Option, Some, None, slice_get}
 use Rattle.std.specs.List.{last_or}
-use Rattle.vt_key.specs.Order.{rank_before}
-use Rattle.vt_key.specs.Times.{Time}
+use Rattle.vt_key.specs.promise.Order.{rank_before}
+use Rattle.vt_key.specs.promise.Times.{Time}
 use Rattle.vt_key.specs.declared.order.Rank.{Rank}
 use Rattle.vt_key.specs.declared.letter.Letter.{Letter}
 use Rattle.vt_key.proofs.OrderLemmas.{same-rank_same}
-use Rattle.vt_lp.specs.Held.{HeldProcess}
-use Rattle.vt_lp.specs.Guards.{ready_rank, lesser_rank, may_come_after}
-use Rattle.vt_lp.specs.Ripe.{is_ripe, unripe_events}
+use Rattle.vt_lp.specs.inside.Held.{HeldProcess}
+use Rattle.vt_lp.specs.inside.Guards.{ready_rank, lesser_rank, may_come_after}
+use Rattle.vt_lp.specs.inside.Ripe.{is_ripe, unripe_events}
 use Rattle.vt_past.specs.declared.event.PastEvent.{PastEvent}
-use Rattle.vt_contest.specs.Entries.{entries_of, ready_of, unready_of, other_rank, TellsLeast}
-use Rattle.vt_contest.specs.Contest.{HasForgottenEvents}
+use Rattle.vt_contest.specs.inside.Entries.{entries_of, ready_of, unready_of, other_rank, TellsLeast}
+use Rattle.vt_contest.specs.inside.Contest.{HasForgottenEvents}
 use Rattle.vt_contest.proofs.EntryLemmas.{entered-at}
 
 -- where an event is ready and nothing waits, the ready event has the least rank

@@ -1,3 +1,1 @@
-pub mod Entries
-pub mod Asked
-pub mod Contest
+pub mod inside

@@ -2,10 +2,10 @@
 
 ghost use Rattle.std.specs.Prelude.{◌≡◌, ℕ, ◌<◌, length, List, Option, None, slice_index_or};
 ghost use Rattle.vt_key.specs.declared.order.Rank.{Rank as RankValue};
-ghost use Rattle.vt_tournament.specs.Contest.{IsTournamentOf, WasTournamentOf};
-ghost use Rattle.vt_lp.specs.Held.{HeldProcess};
-ghost use Rattle.vt_contest.specs.Entries.{entries_of, ready_of, unready_of};
-ghost use Rattle.vt_contest.specs.Asked.{AreAsked, AreTold};
+ghost use Rattle.vt_tournament.specs.inside.Contest.{IsTournamentOf, WasTournamentOf};
+ghost use Rattle.vt_lp.specs.inside.Held.{HeldProcess};
+ghost use Rattle.vt_contest.specs.inside.Entries.{entries_of, ready_of, unready_of};
+ghost use Rattle.vt_contest.specs.inside.Asked.{AreAsked, AreTold};
 
 use crate::entering::other_than;
 use crate::making::at_least_one;

@@ -1,9 +1,9 @@
 //! How a process enters the contest after a change.
 
 ghost use Rattle.std.specs.Prelude.{◌≡◌, ◌<◌, length, false, None, slice_index_or};
-ghost use Rattle.vt_tournament.specs.Contest.{IsTournamentOf, WasTournamentOf};
-ghost use Rattle.vt_contest.specs.Entries.{entries_of, ready_of, unready_of, other_rank, TellsLeast};
-ghost use Rattle.vt_contest.specs.Contest.{IsContestOf, WasContestOf, WasBeforeForgetting};
+ghost use Rattle.vt_tournament.specs.inside.Contest.{IsTournamentOf, WasTournamentOf};
+ghost use Rattle.vt_contest.specs.inside.Entries.{entries_of, ready_of, unready_of, other_rank, TellsLeast};
+ghost use Rattle.vt_contest.specs.inside.Contest.{IsContestOf, WasContestOf, WasBeforeForgetting};
 
 use crate::contest::Contest;
 use crate::contestants::{IfReady, IfUnready, Teller, enter_into, ready_at, unready_at};

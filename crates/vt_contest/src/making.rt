@@ -2,7 +2,7 @@
 
 ghost use Rattle.std.specs.Prelude.{◌≡◌, ◌≤◌, ◌^◌, length, max, All, IfOk, IfErr};
 ghost use Rattle.vt_key.specs.declared.fault.Fault.TheVariants.{Memory};
-ghost use Rattle.vt_contest.specs.Contest.{IsContestOf, IsIdle};
+ghost use Rattle.vt_contest.specs.inside.Contest.{IsContestOf, IsIdle};
 
 use crate::contest::Contest;
 use std::alloc::Global;

@@ -2,11 +2,11 @@
 
 ghost use Rattle.std.specs.Prelude.{◌≡◌, ℕ, ◌<◌, ◌≤◌, ◌++◌, List, length, All, flat_map, Option, Some, true, slice_get, IfSome, IfNone};
 ghost use Rattle.vt_key.specs.declared.order.Rank.{Rank};
-ghost use Rattle.vt_model.specs.Settings.{end_of};
-ghost use Rattle.vt_steps.specs.Letters.{least_time};
-ghost use Rattle.vt_tournament.specs.Least.{IsLeast};
-ghost use Rattle.vt_lp.specs.Held.{HeldProcess};
-ghost use Rattle.vt_contest.specs.Contest.{IsContestOf, AreReady, past_marks};
+ghost use Rattle.vt_model.specs.promise.Settings.{end_of};
+ghost use Rattle.vt_steps.specs.promise.Letters.{least_time};
+ghost use Rattle.vt_tournament.specs.inside.Least.{IsLeast};
+ghost use Rattle.vt_lp.specs.inside.Held.{HeldProcess};
+ghost use Rattle.vt_contest.specs.inside.Contest.{IsContestOf, AreReady, past_marks};
 
 use crate::contest::Contest;
 use vt_key::When;

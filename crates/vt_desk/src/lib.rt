@@ -49,8 +49,8 @@ impl EventModel for Desks {
     type Kept = Option<u64>;
 
     ghost use Rattle.std.proofs.Common.{lit<, lit≤};
-    ghost use Rattle.vt_desk.specs.Desk.{desk_handlers, IsDesk};
-    ghost use Rattle.vt_desk.specs.DeskLaws.{start_within, forward_within, start_state, forward_state, undoes};
+    ghost use Rattle.vt_desk.specs.inside.Desk.{desk_handlers, IsDesk};
+    ghost use Rattle.vt_desk.specs.inside.DeskLaws.{start_within, forward_within, start_state, forward_state, undoes};
 
     ghost handlers = { λ m. desk_handlers };
 

@@ -7,7 +7,7 @@ use Rattle.std.proofs.Math.Seq.{drop-cons}
 use Rattle.std.specs.List.{AllByRecursion, slice_range}
 use borrow.Rule.Slice.PartMut.{put_mid}
 use Rattle.vt_elf.specs.declared.segment.Segment.{Segment}
-use Rattle.vt_elf.specs.Segments.{file_byte, has_byte, memory_byte}
+use Rattle.vt_elf.specs.promise.Segments.{file_byte, has_byte, memory_byte}
 
 -- a place that a segment has a byte for, and one that it has none for
 pub has : {X : Type 0} (s : Segment) (place : ℕ) (x y : X) → s.place ≤ place → place < s.place + s.file_size → cond (has_byte s place) x y ≡ x

@@ -1,7 +1,7 @@
 -- The least number that passes a test.
 use Rattle.std.proofs.Common.{◌≡◌, ℕ, suc, zero, ◌+◌, ◌<◌, ◌≤◌, Bool, true, false, Some, None, refl, ⊎_elim, add-one, arith}
 use Rattle.std.proofs.lemmas.Bool.{cases_lt}
-use Rattle.vt_elf.specs.Symbols.{first_below}
+use Rattle.vt_elf.specs.promise.Symbols.{first_below}
 
 -- one number more, which doesn't pass
 pub none_more : (test : ℕ → Bool) (k : ℕ) → first_below test k ≡ None → test k ≡ false → first_below test (k + 1) ≡ None

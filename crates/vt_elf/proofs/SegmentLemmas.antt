@@ -10,7 +10,8 @@ use Rattle.vt_elf.specs.declared.segment.Segment.{Segment}
 use Rattle.vt_elf.specs.declared.segment.Region.{Region}
 use Rattle.vt_elf.specs.declared.segment.Region.TheVariants.{Code, Constants, State}
 use Rattle.vt_elf.specs.declared.segment.TheConstants.{IMAGE, STATE, MAX_CODE, MAX_IMAGE, MAX_STATE}
-use Rattle.vt_elf.specs.Segments.{unless, base_of, limit_of, is_executable, is_writable, region_of, is_in, region_fault, segment_fault, segments_fault, end_of, reach, code_end, image_end, state_end, IsApart}
+use Rattle.vt_elf.specs.promise.Segments.{unless, base_of, limit_of, is_executable, is_writable, region_of, is_in, region_fault, segment_fault, segments_fault, end_of, reach, code_end, image_end, state_end}
+use Rattle.vt_elf.specs.inside.Segments.{IsApart}
 
 -- the segment lies in its region, whole in a file of so many bytes
 pub record IsSound (size : ℕ) (s : Segment) : Type 0 where

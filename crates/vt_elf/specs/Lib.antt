@@ -1,4 +1,2 @@
-pub mod Fields
-pub mod Executables
-pub mod Segments
-pub mod Symbols
+pub mod promise
+pub mod inside

@@ -1,9 +1,9 @@
 //! Executables, read from the bytes of a file.
 
 ghost use Rattle.std.specs.Prelude.{◌≡◌, ◌⊎◌, ℕ, ◌+◌, ◌-◌, ◌<◌, ◌≤◌, IfErr, IfOk, MatchResult, None, Some, length, slice_index};
-ghost use Rattle.vt_elf.specs.Segments.{code_end, image_end, state_end, memory_byte};
-ghost use Rattle.vt_elf.specs.Executables.{fault_of, segments, is_compressed, IsSymbolsOf};
-ghost use Rattle.vt_elf.specs.Symbols.{IsTable};
+ghost use Rattle.vt_elf.specs.promise.Segments.{code_end, image_end, state_end, memory_byte};
+ghost use Rattle.vt_elf.specs.promise.Executables.{fault_of, segments, is_compressed, IsSymbolsOf};
+ghost use Rattle.vt_elf.specs.inside.Symbols.{IsTable};
 ghost use Rattle.vt_elf.specs.declared.refusal.Refusal.TheVariants.{Memory};
 
 use crate::header::{check_header, is_compressed};

@@ -1,10 +1,10 @@
 //! The numbers in an ELF file.
 
 ghost use Rattle.std.specs.Prelude.{◌≡◌, ◌+◌, ◌≤◌, length, nat_le};
-ghost use Rattle.vt_elf.specs.Fields.{half_at, word_at, double_at};
+ghost use Rattle.vt_elf.specs.promise.Fields.{half_at, word_at, double_at};
 
 /// The number of two bytes at a place, the low byte first.
-#[tactic(auto, unfolding(crate::specs::Fields::half_at))]
+#[tactic(auto, unfolding(crate::specs::promise::Fields::half_at))]
 pub(crate) fn half_at(bytes: &[u8], at: usize) -> u16
     requires { at + 2 ≤ length bytes.now }
     ensures { result ≡ half_at bytes.now at }
@@ -13,7 +13,7 @@ pub(crate) fn half_at(bytes: &[u8], at: usize) -> u16
 }
 
 /// The number of four bytes at a place, the low byte first.
-#[tactic(auto, unfolding(crate::specs::Fields::word_at))]
+#[tactic(auto, unfolding(crate::specs::promise::Fields::word_at))]
 pub(crate) fn word_at(bytes: &[u8], at: usize) -> u32
     requires { at + 4 ≤ length bytes.now }
     ensures { result ≡ word_at bytes.now at }
@@ -22,7 +22,7 @@ pub(crate) fn word_at(bytes: &[u8], at: usize) -> u32
 }
 
 /// The number of eight bytes at a place, the low byte first.
-#[tactic(auto, unfolding(crate::specs::Fields::double_at))]
+#[tactic(auto, unfolding(crate::specs::promise::Fields::double_at))]
 pub(crate) fn double_at(bytes: &[u8], at: usize) -> u64
     requires { at + 8 ≤ length bytes.now }
     ensures { result ≡ double_at bytes.now at }

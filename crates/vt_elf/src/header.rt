@@ -3,9 +3,9 @@
 ghost use Rattle.std.specs.Prelude.{◌≡◌, ◌+◌, ◌*◌, ◌<◌, ◌≤◌, length, true};
 ghost use Rattle.std.specs.Option.{is_some};
 ghost use Rattle.std.specs.Result.{result_err};
-ghost use Rattle.vt_elf.specs.Fields.{e_phnum, program_header};
-ghost use Rattle.vt_elf.specs.Symbols.{first_below};
-ghost use Rattle.vt_elf.specs.Executables.{is_elf, is_for_riscv, has_program_headers, is_dynamic, header_fault, is_compressed};
+ghost use Rattle.vt_elf.specs.promise.Fields.{e_phnum, program_header};
+ghost use Rattle.vt_elf.specs.promise.Symbols.{first_below};
+ghost use Rattle.vt_elf.specs.promise.Executables.{is_elf, is_for_riscv, has_program_headers, is_dynamic, header_fault, is_compressed};
 
 use crate::fields::{double_at, half_at, is_inside, word_at};
 use crate::refusal::Refusal;

@@ -2,7 +2,8 @@
 
 ghost use Rattle.std.specs.Prelude.{◌≡◌, ℕ, ◌+◌, ◌^◌, ◌<◌, ◌≤◌, IfOk, IfErr, if◌then◌else◌, length, slice_index};
 ghost use Rattle.std.specs.List.{AllByRecursion};
-ghost use Rattle.vt_elf.specs.Segments.{file_byte, has_byte, memory_byte, IsApart};
+ghost use Rattle.vt_elf.specs.promise.Segments.{file_byte, has_byte, memory_byte};
+ghost use Rattle.vt_elf.specs.inside.Segments.{IsApart};
 ghost use Rattle.vt_elf.specs.declared.refusal.Refusal.TheVariants.{Memory};
 
 use crate::refusal::Refusal;

@@ -3,8 +3,8 @@
 ghost use Rattle.std.specs.Prelude.{◌≡◌, ◌+◌, ◌^◌, ◌<◌, ◌≤◌, ◌&&◌, IfOk, IfErr, length, nat_le, nat_lt, true};
 ghost use Rattle.std.specs.List.{AllByRecursion};
 ghost use Rattle.std.specs.Result.{result_err};
-ghost use Rattle.vt_elf.specs.Executables.{has_program_headers, segments};
-ghost use Rattle.vt_elf.specs.Segments.{base_of, limit_of, excess_of, is_executable, is_writable, region_of, is_in, region_fault, segment_fault, segments_fault, is_loaded, segment_at, end_of, reach};
+ghost use Rattle.vt_elf.specs.promise.Executables.{has_program_headers, segments};
+ghost use Rattle.vt_elf.specs.promise.Segments.{base_of, limit_of, excess_of, is_executable, is_writable, region_of, is_in, region_fault, segment_fault, segments_fault, is_loaded, segment_at, end_of, reach};
 ghost use Rattle.vt_elf.specs.declared.refusal.Refusal.TheVariants.{Memory};
 
 use crate::fields::{double_at, is_inside, word_at};

@@ -1,8 +1,9 @@
 //! The symbol table, and where a name leads.
 
 ghost use Rattle.std.specs.Prelude.{◌≡◌, ◌+◌, ◌*◌, ◌<◌, ◌≤◌, IfSome, MatchResult, Some, length, true};
-ghost use Rattle.vt_elf.specs.Fields.{e_shnum, section_header};
-ghost use Rattle.vt_elf.specs.Symbols.{is_symbol_table, symbol_section, section_bytes, is_in_file, names_section, is_sound_table, symbols_fault, is_of_kind, is_name_at, is_symbol, first_symbol, function_named, object_named, has_section_headers, object_at, IsTable};
+ghost use Rattle.vt_elf.specs.promise.Fields.{e_shnum, section_header};
+ghost use Rattle.vt_elf.specs.promise.Symbols.{is_symbol_table, symbol_section, section_bytes, is_in_file, names_section, is_sound_table, symbols_fault, is_of_kind, is_name_at, is_symbol, first_symbol, function_named, object_named, has_section_headers, object_at};
+ghost use Rattle.vt_elf.specs.inside.Symbols.{IsTable};
 
 use crate::fields::{double_at, half_at, is_inside, word_at};
 use crate::refusal::Refusal;

@@ -4,7 +4,7 @@ use Rattle.std.proofs.lemmas.Bool.{lt-leb, le-leb}
 use Rattle.vt_riscv.specs.declared.code.Code.{Code}
 use Rattle.vt_riscv.specs.declared.machine.Stop.{Stop}
 use Rattle.vt_riscv.specs.declared.machine.Stop.TheVariants as stops
-use Rattle.vt_riscv.specs.Steps.{run_of}
+use Rattle.vt_riscv.specs.promise.Steps.{run_of}
 use Rattle.vt_guest.specs.declared.trap.TheConstants.{TRAP}
 use Rattle.vt_guest.specs.declared.trap.Reason.{Reason}
 use Rattle.vt_guest.specs.declared.trap.Reason.TheVariants.{BadCall, TooMany, BadSend, Spent}
@@ -12,8 +12,8 @@ use Rattle.vt_guest.specs.declared.calls.Host.{Host}
 use Rattle.vt_guest.specs.declared.calls.Handling.{Handling}
 use Rattle.vt_guest.specs.declared.calls.Next.{Next}
 use Rattle.vt_guest.specs.declared.calls.Next.TheVariants.{Draw}
-use Rattle.vt_guest.specs.Calls.{Turn, most_draws, most_sends, most_records, unless, trapped, register, answers, passed, draws, below_of, may_send, with_request, send_of, with_note, emit_of, lps_of, call_of, low, answered_by}
-use Rattle.vt_guest.specs.Handling.{stopped, turn_of, draws_next, followed, handled, fails}
+use Rattle.vt_guest.specs.promise.Calls.{Turn, most_draws, most_sends, most_records, unless, trapped, register, answers, passed, draws, below_of, may_send, with_request, send_of, with_note, emit_of, lps_of, call_of, low, answered_by}
+use Rattle.vt_guest.specs.promise.Handling.{stopped, turn_of, draws_next, followed, handled, fails}
 
 module _ {N : ℕ} (code : Code) (h : Host) (words : ℕ → ℕ) where
   -- a handler goes on as its first turn says

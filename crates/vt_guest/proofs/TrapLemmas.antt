@@ -1,19 +1,19 @@
 -- A trap is a result, and one in a start shows.
 use Rattle.std.proofs.Common.{◌≡◌, ℕ, ◌<◌, List, [], ◌∷◌, ◌++◌, Bool, true, false, nat_eq, nat_lt, if◌then◌else◌, map, inl, inr, Err, refl, sym, subst, ap, ◌∙◌, arith}
 use Rattle.std.proofs.lemmas.Bool.{lt-ltb, eq-eqb, ne_eqb}
-use Rattle.vt_key.specs.Times.{Time, at}
-use Rattle.vt_key.specs.Lists.{Among}
+use Rattle.vt_key.specs.promise.Times.{Time, at}
+use Rattle.vt_key.specs.promise.Lists.{Among}
 use Rattle.vt_key.proofs.ListLemmas.{among-left, among-right, among-map, among-filter, filter-among}
 use Rattle.vt_model.specs.declared.sending.Sent.{Sent}
 use Rattle.vt_model.specs.declared.settings.Config.{Config}
 use Rattle.vt_model.specs.declared.rows.Row.{Row}
 use Rattle.vt_model.specs.declared.rows.Record.{Record}
-use Rattle.vt_model.specs.Sends.{RecordRequest, sent_event, sent_events, requested_records}
-use Rattle.vt_model.specs.Handler.{StartResult, ForwardResult}
-use Rattle.vt_model.specs.Simulation.{Simulation, Triple, words_at, start_of, fire_of, rows_of, simulation_of, after}
-use Rattle.vt_model.specs.Sequential.{fired_after, events_of, whole_run, rows_after, rows_before, seq_records}
-use Rattle.vt_model.specs.Settings.{end_of}
-use Rattle.vt_model.specs.Histories.{IsLawful}
+use Rattle.vt_model.specs.promise.Sends.{RecordRequest, sent_event, sent_events, requested_records}
+use Rattle.vt_model.specs.promise.Handler.{StartResult, ForwardResult}
+use Rattle.vt_model.specs.promise.Simulation.{Simulation, Triple, words_at, start_of, fire_of, rows_of, simulation_of, after}
+use Rattle.vt_model.specs.promise.Sequential.{fired_after, events_of, whole_run, rows_after, rows_before, seq_records}
+use Rattle.vt_model.specs.promise.Settings.{end_of}
+use Rattle.vt_model.specs.promise.Histories.{IsLawful}
 use Rattle.vt_model.proofs.RunLemmas.{after_from}
 use Rattle.vt_model.proofs.LawLemmas.{lawful_of}
 use Rattle.vt_model.proofs.EndLemmas.{whole_is_history}
@@ -23,10 +23,10 @@ use Rattle.vt_guest.specs.declared.trap.Reason.TheVariants.{BadJump, BadInstruct
 use Rattle.vt_guest.specs.declared.process.Words.{Words}
 use Rattle.vt_guest.specs.declared.process.Process.{Process}
 use Rattle.vt_guest.specs.declared.guest.Guest.{Guest}
-use Rattle.vt_guest.specs.Traps.{number_of, trap_value}
-use Rattle.vt_guest.specs.Handlers.{alarm, no_words, start_gives, trap_gives, event_gives, start_run, event_run, guest_start, guest_forward, guest_handlers}
-use Rattle.vt_guest.specs.Laws.{start_within, forward_within}
-use Rattle.vt_guest.specs.Showing.{IsTrapEvent, IsFailedStart}
+use Rattle.vt_guest.specs.promise.Traps.{number_of, trap_value}
+use Rattle.vt_guest.specs.promise.Handlers.{alarm, no_words, start_gives, trap_gives, event_gives, start_run, event_run, guest_start, guest_forward, guest_handlers}
+use Rattle.vt_guest.specs.inside.Laws.{start_within, forward_within}
+use Rattle.vt_guest.specs.inside.Showing.{IsTrapEvent, IsFailedStart}
 
 -- the value of a trap's record isn't 0
 numbered : (why : Reason) → 0 < number_of why

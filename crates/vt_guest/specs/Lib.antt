@@ -1,7 +1,2 @@
-pub mod Traps
-pub mod Calls
-pub mod Handling
-pub mod Handlers
-pub mod Laws
-pub mod Showing
-pub mod Loading
+pub mod promise
+pub mod inside

@@ -2,7 +2,7 @@
 
 ghost use Rattle.std.specs.Prelude.{◌≡◌, ◌+◌, ◌<◌, ◌≤◌, length};
 ghost use Rattle.vt_model.specs.declared.limits.TheConstants.{MAX_DRAWS, MAX_SENDS, MAX_RECORDS};
-ghost use Rattle.vt_guest.specs.Calls.{most_draws, most_sends, most_records, low, call_of, send_of, emit_of, below_of, lps_of, passed, answered_by};
+ghost use Rattle.vt_guest.specs.promise.Calls.{most_draws, most_sends, most_records, low, call_of, send_of, emit_of, below_of, lps_of, passed, answered_by};
 
 use crate::trap::{Reason, TRAP};
 use arrayvec::ArrayVec;
@@ -140,7 +140,7 @@ impl<const SIZE: usize> Handling<SIZE> {
     }
 
     // An event is sent.
-    #[tactic(auto, unfolding(crate::specs::Calls::send_of))]
+    #[tactic(auto, unfolding(crate::specs::promise::Calls::send_of))]
     #[inline(always)]
     fn send(&mut self, host: Host) -> Next
         ensures next { result ≡ (send_of host self.old).next }
@@ -170,7 +170,7 @@ impl<const SIZE: usize> Handling<SIZE> {
     }
 
     // A record is made.
-    #[tactic(auto, unfolding(crate::specs::Calls::emit_of))]
+    #[tactic(auto, unfolding(crate::specs::promise::Calls::emit_of))]
     #[inline(always)]
     fn emit(&mut self, host: Host) -> Next
         ensures next { result ≡ (emit_of host self.old).next }
@@ -192,7 +192,7 @@ impl<const SIZE: usize> Handling<SIZE> {
     }
 
     // The number of processes is asked for.
-    #[tactic(auto, unfolding(crate::specs::Calls::lps_of))]
+    #[tactic(auto, unfolding(crate::specs::promise::Calls::lps_of))]
     #[inline(always)]
     fn lps(&mut self, host: Host) -> Next
         ensures next { result ≡ (lps_of host self.old).next }
@@ -206,7 +206,7 @@ impl<const SIZE: usize> Handling<SIZE> {
     }
 
     /// A call of the simulator, at which the machine stopped.
-    #[tactic(auto, unfolding(crate::specs::Calls::call_of))]
+    #[tactic(auto, unfolding(crate::specs::promise::Calls::call_of))]
     #[inline(always)]
     pub fn call(&mut self, host: Host) -> Next
         ensures next { result ≡ (call_of host self.old).next }

@@ -1,7 +1,8 @@
 //! The model.
 
 ghost use Rattle.std.specs.Prelude.{◌≡◌, length};
-ghost use Rattle.vt_guest.specs.Handlers.{padded, state_size_of, host_of};
+ghost use Rattle.vt_guest.specs.promise.Handlers.{host_of};
+ghost use Rattle.vt_guest.specs.inside.Handlers.{padded, state_size_of};
 
 use crate::calls::{Handler, Handling, Host};
 use crate::process::{Class, Process, StateSize, Words};
@@ -87,8 +88,8 @@ where
     type Kept = Process<SIZE>;
 
     ghost use Rattle.std.proofs.Common.{lit<, lit≤};
-    ghost use Rattle.vt_guest.specs.Handlers.{guest_handlers};
-    ghost use Rattle.vt_guest.specs.Laws.{start_within, forward_within, undoes};
+    ghost use Rattle.vt_guest.specs.promise.Handlers.{guest_handlers};
+    ghost use Rattle.vt_guest.specs.inside.Laws.{start_within, forward_within, undoes};
 
     ghost handlers = { guest_handlers {N = SIZE} };
 

@@ -1,12 +1,12 @@
 //! The run of a handler.
 
 ghost use Rattle.std.specs.Prelude.{◌≡◌, ◌≤◌, ℕ};
-ghost use Rattle.vt_stream.specs.Words.{word_of, moved};
-ghost use Rattle.vt_model.specs.Drawn.{drawn_in, stream_in, IsSameSource};
-ghost use Rattle.vt_model.specs.Handler.{IsUndrawn};
+ghost use Rattle.vt_stream.specs.inside.Words.{word_of, moved};
+ghost use Rattle.vt_model.specs.inside.Drawn.{drawn_in, stream_in, IsSameSource};
+ghost use Rattle.vt_model.specs.inside.Handler.{IsUndrawn};
 ghost use Rattle.vt_model.specs.declared.limits.TheConstants.{MAX_DRAWS};
-ghost use Rattle.vt_guest.specs.Calls.{most_draws};
-ghost use Rattle.vt_guest.specs.Handling.{blank_stack, begun, turn_of, handled};
+ghost use Rattle.vt_guest.specs.promise.Calls.{most_draws};
+ghost use Rattle.vt_guest.specs.promise.Handling.{blank_stack, begun, turn_of, handled};
 
 use crate::calls::{Handling, Host, Next};
 use crate::process::Words;

@@ -4,8 +4,8 @@ ghost use Rattle.std.specs.Prelude.{◌≡◌, ◌⊎◌, ◌+◌, ◌≤◌, �
 ghost use Rattle.std.specs.Option.{IfNone, IsSome};
 ghost use Rattle.std.specs.String.{string_bytes};
 ghost use Rattle.vt_riscv.specs.declared.places.TheConstants.{IMAGE, STATE};
-ghost use Rattle.vt_elf.specs.Symbols.{function_named, object_named};
-ghost use Rattle.vt_guest.specs.Loading.{is_inside, is_number, with_number, with_found, with_sets, object_fault, set_fault, sets_fault, number_in, number_of_object, processes_object, processes_fault, entries_wrong, set_refused, IsExecutableRefused, IsAssembled, IsLoaded, IsRefused};
+ghost use Rattle.vt_elf.specs.promise.Symbols.{function_named, object_named};
+ghost use Rattle.vt_guest.specs.promise.Loading.{is_inside, is_number, with_number, with_found, with_sets, object_fault, set_fault, sets_fault, number_in, number_of_object, processes_object, processes_fault, entries_wrong, set_refused, IsExecutableRefused, IsAssembled, IsLoaded, IsRefused};
 ghost use Rattle.vt_guest.specs.declared.loading.Refusal.TheVariants.{Memory};
 
 use crate::guest::Program;

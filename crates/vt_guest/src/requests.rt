@@ -1,10 +1,10 @@
 //! The handing out of what a handler asked for.
 
 ghost use Rattle.std.specs.Prelude.{◌≡◌, ◌+◌, ◌≤◌, [], length, map, All};
-ghost use Rattle.vt_model.specs.Sends.{with_requests};
-ghost use Rattle.vt_model.specs.Handler.{IsSendable};
+ghost use Rattle.vt_model.specs.inside.Sends.{with_requests};
+ghost use Rattle.vt_model.specs.inside.Handler.{IsSendable};
 ghost use Rattle.vt_model.specs.declared.limits.TheConstants.{MAX_SENDS, MAX_RECORDS};
-ghost use Rattle.vt_guest.specs.Handlers.{asked, recorded};
+ghost use Rattle.vt_guest.specs.promise.Handlers.{asked, recorded};
 
 use crate::calls::{Note, Request};
 use crate::process::Words;

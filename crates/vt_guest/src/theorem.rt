@@ -1,18 +1,18 @@
 //! Theorems on traps, of every program.
 
 ghost use Rattle.std.specs.Prelude.{◌≡◌, ℕ, ◌+◌, ◌<◌, ◌≤◌, [], ◌∷◌, Err};
-ghost use Rattle.vt_key.specs.Times.{Time, at};
-ghost use Rattle.vt_key.specs.Lists.{Among};
-ghost use Rattle.vt_model.specs.Simulation.{simulation_of, words_at};
-ghost use Rattle.vt_model.specs.Sequential.{seq_records};
+ghost use Rattle.vt_key.specs.promise.Times.{Time, at};
+ghost use Rattle.vt_key.specs.promise.Lists.{Among};
+ghost use Rattle.vt_model.specs.promise.Simulation.{simulation_of, words_at};
+ghost use Rattle.vt_model.specs.promise.Sequential.{seq_records};
 ghost use Rattle.vt_guest.specs.declared.trap.TheConstants.{TRAP};
 ghost use Rattle.vt_guest.specs.declared.trap.Reason.{Reason};
 ghost use Rattle.vt_guest.specs.declared.process.Words.{Words};
 ghost use Rattle.vt_guest.specs.declared.process.Process.{Process};
 ghost use Rattle.vt_guest.specs.declared.guest.Guest.{Guest};
-ghost use Rattle.vt_guest.specs.Traps.{trap_value};
-ghost use Rattle.vt_guest.specs.Handlers.{start_run, event_run, guest_start, guest_forward, guest_handlers, alarm};
-ghost use Rattle.vt_guest.specs.Showing.{IsTrapEvent, IsFailedStart};
+ghost use Rattle.vt_guest.specs.promise.Traps.{trap_value};
+ghost use Rattle.vt_guest.specs.promise.Handlers.{start_run, event_run, guest_start, guest_forward, guest_handlers, alarm};
+ghost use Rattle.vt_guest.specs.inside.Showing.{IsTrapEvent, IsFailedStart};
 
 use crate::guest::Guest;
 use vt_model::Config;

@@ -1,7 +1,7 @@
 //! Traps: why a handler doesn't end.
 
 ghost use Rattle.std.specs.Prelude.{◌≡◌};
-ghost use Rattle.vt_guest.specs.Traps.{number_of, reason_of, trap_value};
+ghost use Rattle.vt_guest.specs.promise.Traps.{number_of, reason_of, trap_value};
 
 use vt_riscv::Trap;
 

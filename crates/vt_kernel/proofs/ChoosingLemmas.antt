@@ -3,11 +3,11 @@ use Rattle.std.proofs.Common.{◌≡◌, ℕ, suc, ◌+◌, ◌-◌, ◌*◌, �
 use Rattle.std.proofs.Math.Nat.{le-div_iff_mul-le, suc-mul}
 use Rattle.std.proofs.lemmas.Nat.{mod-mul-add, div-mul-add}
 use Rattle.vt_key.specs.declared.order.Rank.{Rank}
-use Rattle.vt_tournament.specs.Least.{IsLeast}
-use Rattle.vt_lp.specs.Held.{HeldProcess}
-use Rattle.vt_contest.specs.Entries.{entries_of}
+use Rattle.vt_tournament.specs.inside.Least.{IsLeast}
+use Rattle.vt_lp.specs.inside.Held.{HeldProcess}
+use Rattle.vt_contest.specs.inside.Entries.{entries_of}
 use Rattle.vt_contest.proofs.WinnerLemmas.{winner-there, winner-least}
-use Rattle.vt_kernel.specs.Held.{HeldWorker}
+use Rattle.vt_kernel.specs.inside.Held.{HeldWorker}
 
 -- the process at a place of worker w is one of the run
 pub process-known : (lps workers w place : ℕ) → w < workers → place < (lps + (workers - 1) - w) / workers → place * workers + w < lps

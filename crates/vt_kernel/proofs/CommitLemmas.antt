@@ -4,25 +4,25 @@ use Rattle.std.specs.List.{prefix_len}
 use Rattle.std.proofs.lemmas.Bool.{cases_lt}
 use Rattle.std.proofs.lemmas.List.{append-nil, append_assoc, take_more, length-take, length-set, get_or-set_same, get_or-set_other}
 use Rattle.std.proofs.lemmas.Option.{get_or_from_slice_get, slice_get_within, slice_get_cases, slice_get-get_or}
-use Rattle.vt_lp.specs.Ripe.{rows_of_ripe}
+use Rattle.vt_lp.specs.inside.Ripe.{rows_of_ripe}
 use Rattle.vt_lp.proofs.RipeLemmas.{rows-ripe}
-use Rattle.vt_key.specs.Times.{Time}
+use Rattle.vt_key.specs.promise.Times.{Time}
 use Rattle.vt_key.specs.declared.letter.Mail.{Mail}
 use Rattle.vt_model.specs.declared.rows.Row.{Row}
 use Rattle.vt_model.specs.declared.settings.Config.{Config}
-use Rattle.vt_model.specs.Handler.{Handlers}
-use Rattle.vt_model.specs.Simulation.{Simulation, simulation_of}
-use Rattle.vt_steps.specs.Letters.{Counts}
-use Rattle.vt_steps.specs.World.{LogicalProcess, Part, process_at}
-use Rattle.vt_steps.specs.PartSteps.{process_after_commit, part_after_commit, ripe_rows, is_below}
-use Rattle.vt_steps.specs.StandsFor.{StandsForProcess, StandForProcesses, entry_of}
+use Rattle.vt_model.specs.promise.Handler.{Handlers}
+use Rattle.vt_model.specs.promise.Simulation.{Simulation, simulation_of}
+use Rattle.vt_steps.specs.promise.Letters.{Counts}
+use Rattle.vt_steps.specs.promise.World.{LogicalProcess, Part, process_at}
+use Rattle.vt_steps.specs.promise.PartSteps.{process_after_commit, part_after_commit, ripe_rows, is_below}
+use Rattle.vt_steps.specs.inside.StandsFor.{StandsForProcess, StandForProcesses, entry_of}
 use Rattle.vt_steps.proofs.steps.CommitRows.{rows_of_processes}
-use Rattle.vt_lp.specs.Held.{HeldProcess, process_memory, remembered, StandsFor as ProcessStandsFor}
+use Rattle.vt_lp.specs.inside.Held.{HeldProcess, process_memory, remembered, StandsFor as ProcessStandsFor}
 use Rattle.vt_contest.specs.declared.contest.Contest.{Contest}
-use Rattle.vt_contest.specs.Contest.{IsContestOf}
-use Rattle.vt_outbox.specs.Outbox.{HeldOutbox}
-use Rattle.vt_kernel.specs.Held.{HeldWorker, StandsFor, AreProcesses, IsWorkerInside}
-use Rattle.vt_kernel.specs.Guards.{IsForgotten, HasForgotten}
+use Rattle.vt_contest.specs.inside.Contest.{IsContestOf}
+use Rattle.vt_outbox.specs.inside.Outbox.{HeldOutbox}
+use Rattle.vt_kernel.specs.inside.Held.{HeldWorker, StandsFor, AreProcesses, IsWorkerInside}
+use Rattle.vt_kernel.specs.inside.Guards.{IsForgotten, HasForgotten}
 use Rattle.vt_kernel.proofs.PartLemmas.{stands_along}
 use Rattle.vt_kernel.proofs.ProcessLemmas.{get-map_of, stands-at, process-at}
 

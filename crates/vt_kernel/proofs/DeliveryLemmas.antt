@@ -1,7 +1,7 @@
 -- Home and Accept: a letter leaves the outbox or the mail that has arrived, and reaches its process.
 use Rattle.std.proofs.Common.{◌≡◌, ℕ, suc, ◌/◌, ◌%◌, inl, inr, Bool, true, false, nat_eq, List, [], take, drop, refl, sym, ◌∙◌, ap, subst, Some, None, slice_get, slice_set, if◌then◌else◌}
 use Rattle.std.specs.List.{All, find, remove}
-use Rattle.vt_key.specs.Queues.{without_first}
+use Rattle.vt_key.specs.promise.Queues.{without_first}
 use Rattle.std.proofs.lemmas.List.Elements.{All-from_recursion, recursion_from_All, All-append, All-take, All-drop}
 use Rattle.std.specs.Option.{option_map, option_and_then}
 use Rattle.std.proofs.lemmas.Bool.Decides.{eqb_tells}
@@ -9,22 +9,22 @@ use Rattle.vt_key.proofs.ListLemmas.{every-find, every-without_first, find-passe
 use Rattle.vt_key.specs.declared.letter.Letter.{Letter}
 use Rattle.vt_key.specs.declared.letter.Mail.{Mail}
 use Rattle.vt_model.specs.declared.settings.Config.{Config}
-use Rattle.vt_model.specs.Handler.{Handlers}
-use Rattle.vt_model.specs.Simulation.{simulation_of}
-use Rattle.vt_model.specs.Settings.{end_of}
+use Rattle.vt_model.specs.promise.Handler.{Handlers}
+use Rattle.vt_model.specs.promise.Simulation.{simulation_of}
+use Rattle.vt_model.specs.promise.Settings.{end_of}
 use Rattle.vt_steps.specs.declared.step.Step.TheVariants as step
-use Rattle.vt_steps.specs.Letters.{Counts}
-use Rattle.vt_steps.specs.World.{LogicalProcess, Part}
-use Rattle.vt_steps.specs.ProcessSteps.{accept_process}
-use Rattle.vt_steps.specs.PartSteps.{at_process, with_effect, is_for, home, accept, deliver}
-use Rattle.vt_steps.specs.Cells.{local_step}
-use Rattle.vt_lp.specs.Held.{HeldProcess, IsWithinRun, StandsFor as ProcessStandsFor}
-use Rattle.vt_lp.specs.Guards.{holds_letter, IsDone as ProcessIsDone}
+use Rattle.vt_steps.specs.promise.Letters.{Counts}
+use Rattle.vt_steps.specs.promise.World.{LogicalProcess, Part}
+use Rattle.vt_steps.specs.promise.ProcessSteps.{accept_process}
+use Rattle.vt_steps.specs.promise.PartSteps.{at_process, with_effect, is_for, home, accept, deliver}
+use Rattle.vt_steps.specs.inside.Cells.{local_step}
+use Rattle.vt_lp.specs.inside.Held.{HeldProcess, IsWithinRun, StandsFor as ProcessStandsFor}
+use Rattle.vt_lp.specs.inside.Guards.{holds_letter, IsDone as ProcessIsDone}
 use Rattle.vt_lp.proofs.AcceptLemmas.{accepted, accept-by}
 use Rattle.vt_contest.specs.declared.contest.Contest.{Contest}
-use Rattle.vt_outbox.specs.Outbox.{HeldOutbox}
-use Rattle.vt_kernel.specs.Held.{HeldWorker, StandsFor, AreProcesses, IsWorkerInside}
-use Rattle.vt_kernel.specs.Guards.{IsDone}
+use Rattle.vt_outbox.specs.inside.Outbox.{HeldOutbox}
+use Rattle.vt_kernel.specs.inside.Held.{HeldWorker, StandsFor, AreProcesses, IsWorkerInside}
+use Rattle.vt_kernel.specs.inside.Guards.{IsDone}
 use Rattle.vt_kernel.proofs.OwnSteps.{at_own, own, own-step}
 use Rattle.vt_kernel.proofs.LocalLemmas.{IsOwnPlace, found-at, changed-done, changed-refused}
 

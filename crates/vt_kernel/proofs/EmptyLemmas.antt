@@ -1,7 +1,7 @@
 -- Whether nothing is in a list, by its length.
 use Rattle.std.proofs.Common.{◌≡◌, ℕ, ◌∙◌, Bool, eqb, List, [], ◌∷◌, length, refl, sym, ap, arith}
 use Rattle.std.proofs.lemmas.Bool.Decides.{nat_tests}
-use Rattle.vt_steps.specs.Letters.{is_empty}
+use Rattle.vt_steps.specs.promise.Letters.{is_empty}
 
 pub is_empty-length : {X : Type 0} (xs : List X) → is_empty xs ≡ eqb (length xs) 0
 is_empty-length [] = refl

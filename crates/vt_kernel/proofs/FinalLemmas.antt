@@ -1,14 +1,14 @@
 -- What is made of the states of a worker's processes: the same in memory as in the part that it stands for.
 use Rattle.std.proofs.Common.{◌≡◌, ℕ, ◌+◌, List, [], ◌∷◌, map, refl, sym}
 use Rattle.vt_model.specs.declared.settings.Config.{Config}
-use Rattle.vt_model.specs.Handler.{Handlers}
-use Rattle.vt_model.specs.Simulation.{simulation_of}
-use Rattle.vt_steps.specs.Finals.{values_of_processes}
-use Rattle.vt_steps.specs.StandsFor.{StandForProcesses}
-use Rattle.vt_steps.specs.World.{LogicalProcess, process_at}
+use Rattle.vt_model.specs.promise.Handler.{Handlers}
+use Rattle.vt_model.specs.promise.Simulation.{simulation_of}
+use Rattle.vt_steps.specs.inside.Finals.{values_of_processes}
+use Rattle.vt_steps.specs.inside.StandsFor.{StandForProcesses}
+use Rattle.vt_steps.specs.promise.World.{LogicalProcess, process_at}
 use Rattle.vt_steps.proofs.steps.MemoryLemmas.{is_where}
-use Rattle.vt_lp.specs.Held.{HeldProcess, process_memory}
-use Rattle.vt_kernel.specs.Held.{held_values, AreProcesses}
+use Rattle.vt_lp.specs.inside.Held.{HeldProcess, process_memory}
+use Rattle.vt_kernel.specs.inside.Held.{held_values, AreProcesses}
 
 module _ {S P K : Type 0} (handlers : Handlers S P K) (config : Config) (w : ℕ) where
   pub values-stood : (place : ℕ) (held : List (HeldProcess S P K)) (processes : List (LogicalProcess P)) → AreProcesses config w place held

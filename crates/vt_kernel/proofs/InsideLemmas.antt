@@ -2,11 +2,11 @@
 use Rattle.std.proofs.Common.{◌≡◌, ℕ, List}
 use Rattle.vt_key.specs.declared.letter.Mail.{Mail}
 use Rattle.vt_model.specs.declared.settings.Config.{Config}
-use Rattle.vt_steps.specs.Letters.{Counts}
-use Rattle.vt_lp.specs.Held.{HeldProcess, AllWithinRun}
+use Rattle.vt_steps.specs.promise.Letters.{Counts}
+use Rattle.vt_lp.specs.inside.Held.{HeldProcess, AllWithinRun}
 use Rattle.vt_contest.specs.declared.contest.Contest.{Contest}
-use Rattle.vt_outbox.specs.Outbox.{HeldOutbox}
-use Rattle.vt_kernel.specs.Held.{IsWorkerInside, AllOwnMail, AreCounted}
+use Rattle.vt_outbox.specs.inside.Outbox.{HeldOutbox}
+use Rattle.vt_kernel.specs.inside.Held.{IsWorkerInside, AllOwnMail, AreCounted}
 
 module _ {S P K : Type 0} {config : Config} {w : ℕ} {processes : List (HeldProcess S P K)} {outbox : HeldOutbox P} {arrived : List (Mail P)} {sent got : Counts} {serial : ℕ} {contest : Contest} where
   inside-with : (letters : HeldOutbox P) (mails : List (Mail P)) (made_counts got_counts : Counts) → AllWithinRun config letters.letters → letters.config ≡ config → AllOwnMail config w mails → AreCounted made_counts → AreCounted got_counts →

@@ -1,11 +1,11 @@
 -- A counter past its limit in the part of a step's worker, and in a world that has this part.
 use Rattle.std.proofs.Common.{◌≡◌, ℕ, sym, ◌∙◌, ap, subst, Option, Some, None, slice_get}
 use Rattle.std.specs.Option.{IsSomeAnd, option_and_then}
-use Rattle.vt_model.specs.Simulation.{Simulation}
+use Rattle.vt_model.specs.promise.Simulation.{Simulation}
 use Rattle.vt_steps.specs.declared.step.Step.{Step}
-use Rattle.vt_steps.specs.World.{Part, World}
-use Rattle.vt_steps.specs.Cells.{worker_of}
-use Rattle.vt_kernel.specs.Refusals.{PassesIn, PassesLimit}
+use Rattle.vt_steps.specs.promise.World.{Part, World}
+use Rattle.vt_steps.specs.promise.Cells.{worker_of}
+use Rattle.vt_kernel.specs.promise.Refusals.{PassesIn, PassesLimit}
 
 none-there : {X : Type 0} (Q : X → Type 0) (o : Option X) → ((x : X) → Q x → ⊥) → IsSomeAnd o Q → ⊥
 none-there Q None none h = h

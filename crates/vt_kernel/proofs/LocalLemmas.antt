@@ -10,22 +10,22 @@ use Rattle.vt_key.specs.declared.limits.TheConstants.{MAX_COUNT}
 use Rattle.vt_key.specs.declared.letter.Letter.{Letter}
 use Rattle.vt_key.specs.declared.letter.Mail.{Mail}
 use Rattle.vt_model.specs.declared.settings.Config.{Config}
-use Rattle.vt_model.specs.Handler.{Handlers}
-use Rattle.vt_model.specs.Simulation.{Simulation, simulation_of}
-use Rattle.vt_steps.specs.Letters.{Counts}
-use Rattle.vt_steps.specs.World.{LogicalProcess, Part, process_at}
-use Rattle.vt_steps.specs.ProcessSteps.{ProcessEffect, execute_process}
-use Rattle.vt_steps.specs.PartSteps.{at_process}
-use Rattle.vt_steps.specs.StandsFor.{ProcessMemory, StandForProcesses}
-use Rattle.vt_lp.specs.Held.{HeldProcess, process_memory, AllWithinRun, StandsFor as ProcessStandsFor}
-use Rattle.vt_lp.specs.Guards.{IsDone as ProcessIsDone}
+use Rattle.vt_model.specs.promise.Handler.{Handlers}
+use Rattle.vt_model.specs.promise.Simulation.{Simulation, simulation_of}
+use Rattle.vt_steps.specs.promise.Letters.{Counts}
+use Rattle.vt_steps.specs.promise.World.{LogicalProcess, Part, process_at}
+use Rattle.vt_steps.specs.promise.ProcessSteps.{ProcessEffect, execute_process}
+use Rattle.vt_steps.specs.promise.PartSteps.{at_process}
+use Rattle.vt_steps.specs.inside.StandsFor.{ProcessMemory, StandForProcesses}
+use Rattle.vt_lp.specs.inside.Held.{HeldProcess, process_memory, AllWithinRun, StandsFor as ProcessStandsFor}
+use Rattle.vt_lp.specs.inside.Guards.{IsDone as ProcessIsDone}
 use Rattle.vt_steps.proofs.lists.Places.{get-put_other}
 use Rattle.vt_contest.specs.declared.contest.Contest.{Contest}
-use Rattle.vt_contest.specs.Contest.{IsContestOf}
+use Rattle.vt_contest.specs.inside.Contest.{IsContestOf}
 use Rattle.vt_contest.proofs.Written.{put-there}
-use Rattle.vt_outbox.specs.Outbox.{HeldOutbox}
-use Rattle.vt_kernel.specs.Held.{HeldWorker, IsWorkerInside, StandsFor, AreProcesses, process_of}
-use Rattle.vt_kernel.specs.Guards.{IsDone}
+use Rattle.vt_outbox.specs.inside.Outbox.{HeldOutbox}
+use Rattle.vt_kernel.specs.inside.Held.{HeldWorker, IsWorkerInside, StandsFor, AreProcesses, process_of}
+use Rattle.vt_kernel.specs.inside.Guards.{IsDone}
 use Rattle.vt_kernel.specs.declared.kernel.Kernel.TheInside.{Inside}
 use Rattle.vt_kernel.proofs.ProcessLemmas.{process-at, processes-changed, place-known, place-unknown}
 use Rattle.vt_kernel.proofs.OwnSteps.{at_own, not-own, no-process, found, done-at, refused-at, IsFound}

@@ -9,18 +9,19 @@ use Rattle.vt_key.specs.declared.letter.Event.{Event}
 use Rattle.vt_model.specs.declared.limits.TheConstants.{MAX_SENDS}
 use Rattle.vt_model.specs.declared.sending.Sent.{Sent}
 use Rattle.vt_model.specs.declared.settings.Config.{Config}
-use Rattle.vt_model.specs.Handler.{Handlers, StartResult, IsWithinLimits, AreWords}
-use Rattle.vt_model.specs.Histories.{AreNumbered}
-use Rattle.vt_model.specs.Settings.{end_of}
-use Rattle.vt_model.specs.Simulation.{Simulation, simulation_of, start_of, words_at}
+use Rattle.vt_model.specs.promise.Handler.{Handlers, StartResult}
+use Rattle.vt_model.specs.inside.Handler.{IsWithinLimits, AreWords}
+use Rattle.vt_model.specs.promise.Histories.{AreNumbered}
+use Rattle.vt_model.specs.promise.Settings.{end_of}
+use Rattle.vt_model.specs.promise.Simulation.{Simulation, simulation_of, start_of, words_at}
 use Rattle.vt_model.proofs.LawLemmas.{are_words, lawful_of}
-use Rattle.vt_steps.specs.Letters.{stamped}
-use Rattle.vt_steps.specs.World.{process_at, process_count, start_sends}
-use Rattle.vt_steps.specs.StandsFor.{StandsForProcess, StandForProcesses, entry_of}
+use Rattle.vt_steps.specs.promise.Letters.{stamped}
+use Rattle.vt_steps.specs.promise.World.{process_at, process_count, start_sends}
+use Rattle.vt_steps.specs.inside.StandsFor.{StandsForProcess, StandForProcesses, entry_of}
 use Rattle.vt_past.specs.declared.event.PastEvent.{PastEvent}
-use Rattle.vt_lp.specs.Held.{HeldProcess, process_memory, remembered, StandsFor as ProcessStandsFor, opening_process}
-use Rattle.vt_contest.specs.Contest.{IsIdle}
-use Rattle.vt_kernel.specs.Held.{AreProcesses}
+use Rattle.vt_lp.specs.inside.Held.{HeldProcess, process_memory, remembered, StandsFor as ProcessStandsFor, opening_process}
+use Rattle.vt_contest.specs.inside.Contest.{IsIdle}
+use Rattle.vt_kernel.specs.inside.Held.{AreProcesses}
 
 -- ---- lists
 

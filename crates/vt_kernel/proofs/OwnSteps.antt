@@ -7,21 +7,22 @@ use Rattle.vt_key.specs.declared.letter.Letter.{Letter}
 use Rattle.vt_key.specs.declared.fault.Fault.{Fault}
 use Rattle.vt_key.specs.declared.limits.TheConstants.{MAX_COUNT}
 use Rattle.vt_model.specs.declared.settings.Config.{Config}
-use Rattle.vt_model.specs.Handler.{Handlers}
-use Rattle.vt_model.specs.Simulation.{Simulation, Triple, simulation_of}
-use Rattle.vt_steps.specs.World.{LogicalProcess, Part, process_at}
-use Rattle.vt_steps.specs.ProcessSteps.{ProcessEffect, execute_process}
-use Rattle.vt_steps.specs.PartSteps.{with_effect, at_process, execute}
+use Rattle.vt_model.specs.promise.Handler.{Handlers}
+use Rattle.vt_model.specs.promise.Simulation.{Simulation, Triple, simulation_of}
+use Rattle.vt_steps.specs.promise.World.{LogicalProcess, Part, process_at}
+use Rattle.vt_steps.specs.promise.ProcessSteps.{ProcessEffect, execute_process}
+use Rattle.vt_steps.specs.promise.PartSteps.{with_effect, at_process, execute}
 use Rattle.vt_steps.specs.declared.step.Step.TheVariants.{Execute}
-use Rattle.vt_steps.specs.StandsFor.{StandsForProcess}
-use Rattle.vt_steps.specs.Cells.{if_own, local_step}
+use Rattle.vt_steps.specs.inside.StandsFor.{StandsForProcess}
+use Rattle.vt_steps.specs.inside.Cells.{if_own, local_step}
 use Rattle.vt_steps.proofs.lists.Places.{get-put_same}
 use Rattle.vt_steps.proofs.steps.MemoryLemmas.{is_where}
-use Rattle.vt_lp.specs.Held.{HeldProcess, process_memory, StandsFor as ProcessStandsFor}
-use Rattle.vt_lp.specs.Guards.{IsDone as ProcessIsDone, IsExecuteRefusal as ProcessIsExecuteRefusal, number_of}
-use Rattle.vt_kernel.specs.Held.{HeldWorker, StandsFor, AreProcesses}
-use Rattle.vt_kernel.specs.Guards.{IsDone, IsExecuteRefusal}
-use Rattle.vt_kernel.specs.Refusals.{PassesIn}
+use Rattle.vt_lp.specs.inside.Held.{HeldProcess, process_memory, StandsFor as ProcessStandsFor}
+use Rattle.vt_lp.specs.promise.Guards.{number_of}
+use Rattle.vt_lp.specs.inside.Guards.{IsDone as ProcessIsDone, IsExecuteRefusal as ProcessIsExecuteRefusal}
+use Rattle.vt_kernel.specs.inside.Held.{HeldWorker, StandsFor, AreProcesses}
+use Rattle.vt_kernel.specs.inside.Guards.{IsDone, IsExecuteRefusal}
+use Rattle.vt_kernel.specs.promise.Refusals.{PassesIn}
 use Rattle.vt_kernel.proofs.ProcessLemmas.{get-map_of, stands-at, process-at, stands-after}
 
 module _ {S P : Type 0} (sim : Simulation S P) (w : ℕ) where

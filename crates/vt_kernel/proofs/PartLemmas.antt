@@ -1,20 +1,20 @@
 -- What a worker stands for after it changed: the part with the same change.
 use Rattle.std.proofs.Common.{◌≡◌, ◌∙◌, ℕ, not, List, length, map, refl, sym, ap, subst}
 use Rattle.std.specs.List.{filter}
-use Rattle.vt_key.specs.Letters.{other_colour}
-use Rattle.vt_key.specs.Times.{Time, earlier}
+use Rattle.vt_key.specs.promise.Letters.{other_colour}
+use Rattle.vt_key.specs.promise.Times.{Time, earlier}
 use Rattle.vt_key.specs.declared.letter.Letter.{Letter}
 use Rattle.vt_key.specs.declared.letter.Mail.{Mail}
 use Rattle.vt_key.specs.declared.letter.Colour.{Colour}
 use Rattle.vt_key.specs.declared.letter.Colour.TheVariants.{White, Red}
-use Rattle.vt_model.specs.Handler.{Handlers}
-use Rattle.vt_model.specs.Simulation.{simulation_of}
-use Rattle.vt_model.specs.Settings.{end_of}
-use Rattle.vt_steps.specs.Letters.{Counts, raised, count_colour, least_time}
-use Rattle.vt_steps.specs.World.{Part}
-use Rattle.vt_steps.specs.PartSteps.{part_after_cut, part_after_fetch, part_after_send, mail_of_send, is_for}
-use Rattle.vt_kernel.specs.Held.{HeldWorker, StandsFor}
-use Rattle.vt_kernel.specs.Guards.{mailed}
+use Rattle.vt_model.specs.promise.Handler.{Handlers}
+use Rattle.vt_model.specs.promise.Simulation.{simulation_of}
+use Rattle.vt_model.specs.promise.Settings.{end_of}
+use Rattle.vt_steps.specs.promise.Letters.{Counts, raised, count_colour, least_time}
+use Rattle.vt_steps.specs.promise.World.{Part}
+use Rattle.vt_steps.specs.promise.PartSteps.{part_after_cut, part_after_fetch, part_after_send, mail_of_send, is_for}
+use Rattle.vt_kernel.specs.inside.Held.{HeldWorker, StandsFor}
+use Rattle.vt_kernel.specs.inside.Guards.{mailed}
 
 module _ {S P K : Type 0} where
   -- a worker as it is seen, and the value that it was

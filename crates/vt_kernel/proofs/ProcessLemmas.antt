@@ -5,15 +5,15 @@ use Rattle.std.proofs.lemmas.List.Elements.{All-nil, All-cons}
 use Rattle.std.proofs.Math.Nat.{le-div_iff_mul-le, div-add-mod', suc-mul, mod-lt}
 use Rattle.vt_key.specs.declared.letter.Letter.{Letter}
 use Rattle.vt_model.specs.declared.settings.Config.{Config}
-use Rattle.vt_model.specs.Handler.{Handlers}
-use Rattle.vt_model.specs.Simulation.{Simulation, simulation_of}
-use Rattle.vt_model.specs.Settings.{end_of}
-use Rattle.vt_steps.specs.World.{LogicalProcess, Part, process_at}
-use Rattle.vt_steps.specs.ProcessSteps.{ProcessEffect}
-use Rattle.vt_steps.specs.PartSteps.{with_effect}
-use Rattle.vt_steps.specs.StandsFor.{ProcessMemory, StandsForProcess, StandForProcesses}
-use Rattle.vt_lp.specs.Held.{HeldProcess, process_memory}
-use Rattle.vt_kernel.specs.Held.{HeldWorker, StandsFor, AreProcesses}
+use Rattle.vt_model.specs.promise.Handler.{Handlers}
+use Rattle.vt_model.specs.promise.Simulation.{Simulation, simulation_of}
+use Rattle.vt_model.specs.promise.Settings.{end_of}
+use Rattle.vt_steps.specs.promise.World.{LogicalProcess, Part, process_at}
+use Rattle.vt_steps.specs.promise.ProcessSteps.{ProcessEffect}
+use Rattle.vt_steps.specs.promise.PartSteps.{with_effect}
+use Rattle.vt_steps.specs.inside.StandsFor.{ProcessMemory, StandsForProcess, StandForProcesses}
+use Rattle.vt_lp.specs.inside.Held.{HeldProcess, process_memory}
+use Rattle.vt_kernel.specs.inside.Held.{HeldWorker, StandsFor, AreProcesses}
 
 -- ---- lists
 

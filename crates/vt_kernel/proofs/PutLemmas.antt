@@ -5,18 +5,18 @@ use Rattle.vt_key.specs.declared.limits.TheConstants.{MAX_COUNT}
 use Rattle.vt_key.specs.declared.letter.Letter.{Letter}
 use Rattle.vt_key.specs.declared.letter.Mail.{Mail}
 use Rattle.vt_model.specs.declared.settings.Config.{Config}
-use Rattle.vt_model.specs.Handler.{Handlers}
-use Rattle.vt_model.specs.Settings.{end_of}
-use Rattle.vt_steps.specs.Letters.{Counts}
-use Rattle.vt_steps.specs.World.{LogicalProcess}
-use Rattle.vt_steps.specs.ProcessSteps.{ProcessEffect}
-use Rattle.vt_lp.specs.Held.{HeldProcess, AllWithinRun, IsWithinRun}
-use Rattle.vt_lp.specs.Guards.{IsDone as ProcessIsDone}
+use Rattle.vt_model.specs.promise.Handler.{Handlers}
+use Rattle.vt_model.specs.promise.Settings.{end_of}
+use Rattle.vt_steps.specs.promise.Letters.{Counts}
+use Rattle.vt_steps.specs.promise.World.{LogicalProcess}
+use Rattle.vt_steps.specs.promise.ProcessSteps.{ProcessEffect}
+use Rattle.vt_lp.specs.inside.Held.{HeldProcess, AllWithinRun, IsWithinRun}
+use Rattle.vt_lp.specs.inside.Guards.{IsDone as ProcessIsDone}
 use Rattle.vt_contest.specs.declared.contest.Contest.{Contest}
-use Rattle.vt_contest.specs.Contest.{IsContestOf}
-use Rattle.vt_outbox.specs.Outbox.{HeldOutbox}
-use Rattle.vt_kernel.specs.Held.{HeldWorker, IsWorkerInside}
-use Rattle.vt_kernel.specs.Settled.{IsSettledTo}
+use Rattle.vt_contest.specs.inside.Contest.{IsContestOf}
+use Rattle.vt_outbox.specs.inside.Outbox.{HeldOutbox}
+use Rattle.vt_kernel.specs.inside.Held.{HeldWorker, IsWorkerInside}
+use Rattle.vt_kernel.specs.inside.Settled.{IsSettledTo}
 use Rattle.vt_kernel.proofs.ProcessLemmas.{process-at}
 use Rattle.vt_kernel.proofs.LocalLemmas.{inside-changed, written-same}
 

@@ -5,17 +5,17 @@ use Rattle.std.specs.Option.{option_map}
 use Rattle.std.proofs.lemmas.Bool.Decides.{eqb_tells}
 use Rattle.vt_key.specs.declared.order.Rank.{Rank}
 use Rattle.vt_key.specs.declared.letter.Letter.{Letter}
-use Rattle.vt_model.specs.Handler.{Handlers}
-use Rattle.vt_model.specs.Simulation.{Simulation, simulation_of}
+use Rattle.vt_model.specs.promise.Handler.{Handlers}
+use Rattle.vt_model.specs.promise.Simulation.{Simulation, simulation_of}
 use Rattle.vt_steps.specs.declared.step.Step.TheVariants.{Execute}
-use Rattle.vt_steps.specs.World.{LogicalProcess, Part}
-use Rattle.vt_steps.specs.ProcessSteps.{ProcessEffect, effect_of_execute, execute_least, execute_process}
-use Rattle.vt_steps.specs.PartSteps.{with_effect}
-use Rattle.vt_steps.specs.Cells.{local_step}
-use Rattle.vt_lp.specs.Held.{HeldProcess, StandsFor as ProcessStandsFor}
-use Rattle.vt_lp.specs.Guards.{may_come_after, ready_rank}
-use Rattle.vt_contest.specs.Entries.{ready_of}
-use Rattle.vt_kernel.specs.Held.{HeldWorker, StandsFor, AreProcesses}
+use Rattle.vt_steps.specs.promise.World.{LogicalProcess, Part}
+use Rattle.vt_steps.specs.promise.ProcessSteps.{ProcessEffect, effect_of_execute, execute_least, execute_process}
+use Rattle.vt_steps.specs.promise.PartSteps.{with_effect}
+use Rattle.vt_steps.specs.inside.Cells.{local_step}
+use Rattle.vt_lp.specs.inside.Held.{HeldProcess, StandsFor as ProcessStandsFor}
+use Rattle.vt_lp.specs.inside.Guards.{may_come_after, ready_rank}
+use Rattle.vt_contest.specs.inside.Entries.{ready_of}
+use Rattle.vt_kernel.specs.inside.Held.{HeldWorker, StandsFor, AreProcesses}
 use Rattle.vt_kernel.proofs.OwnSteps.{own-execute, not-own, own-step, found, refused-at}
 use Rattle.vt_kernel.proofs.LocalLemmas.{past-refused, execute-step}
 use Rattle.vt_kernel.proofs.ProcessLemmas.{get-map_of}

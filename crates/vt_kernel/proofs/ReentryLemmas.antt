@@ -5,20 +5,20 @@ use Rattle.std.proofs.lemmas.Bool.{ltb-true}
 use Rattle.std.proofs.lemmas.List.{length-set}
 use Rattle.std.proofs.lemmas.Option.{slice_get_within}
 use Rattle.std.specs.List.{find}
-use Rattle.vt_key.specs.Times.{TimeBefore}
+use Rattle.vt_key.specs.promise.Times.{TimeBefore}
 use Rattle.vt_key.specs.declared.letter.Letter.{Letter}
 use Rattle.vt_key.specs.declared.letter.Mail.{Mail}
 use Rattle.vt_model.specs.declared.settings.Config.{Config}
-use Rattle.vt_model.specs.Settings.{end_of}
-use Rattle.vt_steps.specs.Letters.{Counts}
-use Rattle.vt_steps.specs.PartSteps.{is_for}
-use Rattle.vt_lp.specs.Held.{HeldProcess}
+use Rattle.vt_model.specs.promise.Settings.{end_of}
+use Rattle.vt_steps.specs.promise.Letters.{Counts}
+use Rattle.vt_steps.specs.promise.PartSteps.{is_for}
+use Rattle.vt_lp.specs.inside.Held.{HeldProcess}
 use Rattle.vt_contest.specs.declared.contest.Contest.{Contest}
-use Rattle.vt_contest.specs.Contest.{WasContestOf}
+use Rattle.vt_contest.specs.inside.Contest.{WasContestOf}
 use Rattle.vt_contest.proofs.Written.{get-all}
 use Rattle.vt_contest.proofs.ContestLemmas.{contest-before}
-use Rattle.vt_outbox.specs.Outbox.{HeldOutbox}
-use Rattle.vt_kernel.specs.Held.{IsWorkerInside, IsOwnMail}
+use Rattle.vt_outbox.specs.inside.Outbox.{HeldOutbox}
+use Rattle.vt_kernel.specs.inside.Held.{IsWorkerInside, IsOwnMail}
 use Rattle.vt_kernel.proofs.ProcessLemmas.{process-at}
 use Rattle.vt_kernel.proofs.LocalLemmas.{IsOwnPlace, index-get, place-within}
 use Rattle.vt_kernel.proofs.DeliveryLemmas.{found-in}

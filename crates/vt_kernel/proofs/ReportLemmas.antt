@@ -1,20 +1,20 @@
 -- What a worker reports, by the part that it stands for.
 use Rattle.std.proofs.Common.{◌≡◌, ℕ, ◌+◌, List, [], ◌∷◌, ◌++◌, map, refl, sym}
 use Rattle.std.specs.List.{flat_map}
-use Rattle.vt_key.specs.Letters.{other_colour}
-use Rattle.vt_key.specs.Times.{earlier}
+use Rattle.vt_key.specs.promise.Letters.{other_colour}
+use Rattle.vt_key.specs.promise.Times.{earlier}
 use Rattle.vt_key.specs.declared.letter.Mail.{Mail}
-use Rattle.vt_model.specs.Handler.{Handlers}
-use Rattle.vt_model.specs.Simulation.{Simulation, simulation_of}
-use Rattle.vt_model.specs.Settings.{end_of}
-use Rattle.vt_steps.specs.Letters.{least_time, count_of}
-use Rattle.vt_steps.specs.World.{LogicalProcess, Part, letters_in}
-use Rattle.vt_steps.specs.PartSteps.{report_sent, report_got, report_least}
-use Rattle.vt_steps.specs.StandsFor.{StandForProcesses}
-use Rattle.vt_lp.specs.Held.{HeldProcess, process_memory}
+use Rattle.vt_model.specs.promise.Handler.{Handlers}
+use Rattle.vt_model.specs.promise.Simulation.{Simulation, simulation_of}
+use Rattle.vt_model.specs.promise.Settings.{end_of}
+use Rattle.vt_steps.specs.promise.Letters.{least_time, count_of}
+use Rattle.vt_steps.specs.promise.World.{LogicalProcess, Part, letters_in}
+use Rattle.vt_steps.specs.promise.PartSteps.{report_sent, report_got, report_least}
+use Rattle.vt_steps.specs.inside.StandsFor.{StandForProcesses}
+use Rattle.vt_lp.specs.inside.Held.{HeldProcess, process_memory}
 use Rattle.vt_contest.proofs.LeastLemmas.{kept_letters}
-use Rattle.vt_kernel.specs.Held.{HeldWorker, StandsFor}
-use Rattle.vt_kernel.specs.Guards.{held_letters}
+use Rattle.vt_kernel.specs.inside.Held.{HeldWorker, StandsFor}
+use Rattle.vt_kernel.specs.inside.Guards.{held_letters}
 
 module _ {S P K : Type 0} (handlers : Handlers S P K) where
   -- what the processes of a part have is what is kept of them

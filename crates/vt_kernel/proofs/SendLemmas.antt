@@ -9,17 +9,17 @@ use Rattle.vt_key.specs.declared.letter.Letter.{Letter}
 use Rattle.vt_key.specs.declared.letter.Colour.{Colour}
 use Rattle.vt_key.specs.declared.letter.Colour.TheVariants.{White, Red}
 use Rattle.vt_key.specs.declared.limits.TheConstants.{MAX_COUNT}
-use Rattle.vt_model.specs.Handler.{Handlers}
-use Rattle.vt_model.specs.Simulation.{Simulation, simulation_of}
+use Rattle.vt_model.specs.promise.Handler.{Handlers}
+use Rattle.vt_model.specs.promise.Simulation.{Simulation, simulation_of}
 use Rattle.vt_model.specs.declared.settings.Config.{Config}
-use Rattle.vt_model.specs.Settings.{end_of}
-use Rattle.vt_steps.specs.Letters.{Counts, count_of, raised}
-use Rattle.vt_steps.specs.World.{Part}
-use Rattle.vt_steps.specs.PartSteps.{is_for, letters_for, part_after_send}
-use Rattle.vt_steps.specs.CellSteps.{may_send}
-use Rattle.vt_lp.specs.Held.{AllWithinRun, IsWithinRun}
-use Rattle.vt_kernel.specs.Held.{HeldWorker, StandsFor, AreCounted, AllOwnMail, IsOwnMail}
-use Rattle.vt_kernel.specs.Guards.{mailed, IsSendRefusal}
+use Rattle.vt_model.specs.promise.Settings.{end_of}
+use Rattle.vt_steps.specs.promise.Letters.{Counts, count_of, raised}
+use Rattle.vt_steps.specs.promise.World.{Part}
+use Rattle.vt_steps.specs.promise.PartSteps.{is_for, letters_for, part_after_send}
+use Rattle.vt_steps.specs.promise.CellSteps.{may_send}
+use Rattle.vt_lp.specs.inside.Held.{AllWithinRun, IsWithinRun}
+use Rattle.vt_kernel.specs.inside.Held.{HeldWorker, StandsFor, AreCounted, AllOwnMail, IsOwnMail}
+use Rattle.vt_kernel.specs.inside.Guards.{mailed, IsSendRefusal}
 
 -- ---- counts
 

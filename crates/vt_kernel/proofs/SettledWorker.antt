@@ -2,18 +2,18 @@
 use Rattle.std.proofs.Common.{◌≡◌, ℕ, ◌+◌, ◌-◌, ◌*◌, ◌/◌, ◌%◌, ◌≤◌, List, [], length, refl, sym, ◌∙◌, ap, subst, arith, Some, slice_get, slice_set}
 use Rattle.std.proofs.Math.Nat.{div-add-mod'}
 use Rattle.vt_key.specs.declared.letter.Letter.{Letter}
-use Rattle.vt_model.specs.Handler.{Handlers}
-use Rattle.vt_model.specs.Simulation.{simulation_of}
-use Rattle.vt_steps.specs.World.{LogicalProcess, Part, process_at}
-use Rattle.vt_steps.specs.ProcessSteps.{undo_process, cancel_process}
-use Rattle.vt_steps.specs.PartSteps.{with_effect}
+use Rattle.vt_model.specs.promise.Handler.{Handlers}
+use Rattle.vt_model.specs.promise.Simulation.{simulation_of}
+use Rattle.vt_steps.specs.promise.World.{LogicalProcess, Part, process_at}
+use Rattle.vt_steps.specs.promise.ProcessSteps.{undo_process, cancel_process}
+use Rattle.vt_steps.specs.promise.PartSteps.{with_effect}
 use Rattle.vt_steps.proofs.lists.Places.{get-put_same}
-use Rattle.vt_lp.specs.Held.{HeldProcess, StandsFor as ProcessStandsFor}
-use Rattle.vt_lp.specs.Guards.{HasNothingToSettle}
-use Rattle.vt_kernel.specs.Held.{HeldWorker, StandsFor, AreProcesses}
-use Rattle.vt_kernel.specs.Local.{IsSettled}
-use Rattle.vt_kernel.specs.Guards.{SettlesTo}
-use Rattle.vt_kernel.specs.Settled.{LedTo, IsSettledTo}
+use Rattle.vt_lp.specs.inside.Held.{HeldProcess, StandsFor as ProcessStandsFor}
+use Rattle.vt_lp.specs.inside.Guards.{HasNothingToSettle}
+use Rattle.vt_kernel.specs.inside.Held.{HeldWorker, StandsFor, AreProcesses}
+use Rattle.vt_kernel.specs.inside.Local.{IsSettled}
+use Rattle.vt_kernel.specs.inside.Guards.{SettlesTo}
+use Rattle.vt_kernel.specs.inside.Settled.{LedTo, IsSettledTo}
 use Rattle.vt_kernel.proofs.ProcessLemmas.{stands-after}
 use Rattle.vt_kernel.proofs.PartLemmas.{stands_along}
 use Rattle.vt_kernel.proofs.OwnSteps.{IsFound}

@@ -8,20 +8,20 @@ use Rattle.std.proofs.Math.Nat.{mod-add-mod}
 use Rattle.std.specs.List.{filter}
 use Rattle.vt_key.specs.declared.order.Stamp.{Stamp}
 use Rattle.vt_key.specs.declared.letter.Letter.{Letter}
-use Rattle.vt_model.specs.Handler.{Handlers}
-use Rattle.vt_model.specs.Simulation.{Simulation}
+use Rattle.vt_model.specs.promise.Handler.{Handlers}
+use Rattle.vt_model.specs.promise.Simulation.{Simulation}
 use Rattle.vt_steps.specs.declared.step.Step.{Step}
 use Rattle.vt_steps.specs.declared.step.Step.TheVariants.{Undo, Cancel}
-use Rattle.vt_steps.specs.World.{LogicalProcess, Part}
-use Rattle.vt_steps.specs.ProcessSteps.{ProcessEffect, undo_process, cancel_process, can_annihilate}
-use Rattle.vt_steps.specs.PartSteps.{with_effect}
-use Rattle.vt_steps.specs.Cells.{local_step, local_steps}
+use Rattle.vt_steps.specs.promise.World.{LogicalProcess, Part}
+use Rattle.vt_steps.specs.promise.ProcessSteps.{ProcessEffect, undo_process, cancel_process, can_annihilate}
+use Rattle.vt_steps.specs.promise.PartSteps.{with_effect}
+use Rattle.vt_steps.specs.inside.Cells.{local_step, local_steps}
 use Rattle.vt_steps.proofs.lists.Places.{get-put_same}
 pub use Rattle.vt_contest.proofs.Written.{put-there}
-use Rattle.vt_kernel.specs.Local.{AreSettling, IsSettled, is_undo, count_undos}
-use Rattle.vt_lp.specs.Held.{HeldProcess, StandsFor as ProcessStandsFor}
-use Rattle.vt_lp.specs.Guards.{IsDone as ProcessIsDone}
-use Rattle.vt_kernel.specs.Settled.{and_then, nothing_done, LedTo, not_moved, undone, cancelled, IsLed, IsSettledTo}
+use Rattle.vt_kernel.specs.inside.Local.{AreSettling, IsSettled, is_undo, count_undos}
+use Rattle.vt_lp.specs.inside.Held.{HeldProcess, StandsFor as ProcessStandsFor}
+use Rattle.vt_lp.specs.inside.Guards.{IsDone as ProcessIsDone}
+use Rattle.vt_kernel.specs.inside.Settled.{and_then, nothing_done, LedTo, not_moved, undone, cancelled, IsLed, IsSettledTo}
 use Rattle.vt_kernel.proofs.OwnSteps.{own-step}
 
 -- one settling step more

@@ -1,6 +1,2 @@
-pub mod Held
-pub mod Local
-pub mod Guards
-pub mod Settled
-pub mod Refusals
-pub mod Steps
+pub mod promise
+pub mod inside

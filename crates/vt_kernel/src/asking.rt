@@ -2,15 +2,15 @@
 
 ghost use Rattle.std.specs.Prelude.{◌≡◌, ◌⊎◌, true, IfOk, IfErr};
 ghost use Rattle.vt_key.specs.declared.fault.Fault.TheVariants.{NotLawful, Exhausted};
-ghost use Rattle.vt_model.specs.Handler.{Handlers};
-ghost use Rattle.vt_model.specs.Simulation.{simulation_of};
-ghost use Rattle.vt_steps.specs.World.{Part};
-ghost use Rattle.vt_steps.specs.PartSteps.{part_after_send};
-ghost use Rattle.vt_steps.specs.CellSteps.{may_send};
+ghost use Rattle.vt_model.specs.promise.Handler.{Handlers};
+ghost use Rattle.vt_model.specs.promise.Simulation.{simulation_of};
+ghost use Rattle.vt_steps.specs.promise.World.{Part};
+ghost use Rattle.vt_steps.specs.promise.PartSteps.{part_after_send};
+ghost use Rattle.vt_steps.specs.promise.CellSteps.{may_send};
 ghost use Rattle.vt_steps.specs.declared.step.Step.TheVariants as step;
-ghost use Rattle.vt_kernel.specs.Held.{StandsFor};
-ghost use Rattle.vt_kernel.specs.Guards.{IsSendRefusal};
-ghost use Rattle.vt_kernel.specs.Refusals.{PassesIn};
+ghost use Rattle.vt_kernel.specs.inside.Held.{StandsFor};
+ghost use Rattle.vt_kernel.specs.inside.Guards.{IsSendRefusal};
+ghost use Rattle.vt_kernel.specs.promise.Refusals.{PassesIn};
 
 use crate::kernel::Kernel;
 use vt_key::Fault;

@@ -2,14 +2,14 @@
 
 ghost use Rattle.std.specs.Prelude.{◌≡◌, ℕ, ◌<◌, ◌/◌, ◌%◌, map, slice_get, Some, None, IfSome, IfNone};
 ghost use Rattle.vt_key.specs.declared.order.Rank.{Rank};
-ghost use Rattle.vt_tournament.specs.Least.{IsLeast};
-ghost use Rattle.vt_model.specs.Handler.{Handlers};
-ghost use Rattle.vt_model.specs.Simulation.{simulation_of};
-ghost use Rattle.vt_steps.specs.World.{Part};
-ghost use Rattle.vt_steps.specs.Cells.{local_step};
+ghost use Rattle.vt_tournament.specs.inside.Least.{IsLeast};
+ghost use Rattle.vt_model.specs.promise.Handler.{Handlers};
+ghost use Rattle.vt_model.specs.promise.Simulation.{simulation_of};
+ghost use Rattle.vt_steps.specs.promise.World.{Part};
+ghost use Rattle.vt_steps.specs.inside.Cells.{local_step};
 ghost use Rattle.vt_steps.specs.declared.step.Step.TheVariants as step;
-ghost use Rattle.vt_contest.specs.Entries.{ready_of};
-ghost use Rattle.vt_kernel.specs.Held.{StandsFor};
+ghost use Rattle.vt_contest.specs.inside.Entries.{ready_of};
+ghost use Rattle.vt_kernel.specs.inside.Held.{StandsFor};
 
 use crate::kernel::Kernel;
 use vt_model::Model as EventModel;

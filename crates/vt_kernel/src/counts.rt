@@ -3,8 +3,8 @@
 ghost use Rattle.std.specs.Prelude.{◌≡◌, ◌+◌, ◌<◌, ◌≤◌, ◌⊎◌, IfSome, IfNone};
 ghost use Rattle.vt_key.specs.declared.letter.Colour.TheVariants.{White, Red};
 ghost use Rattle.vt_key.specs.declared.limits.TheConstants.{MAX_COUNT};
-ghost use Rattle.vt_kernel.specs.Held.{AreCounted};
-ghost use Rattle.vt_steps.specs.Letters.{count_of, raised, count_colour};
+ghost use Rattle.vt_kernel.specs.inside.Held.{AreCounted};
+ghost use Rattle.vt_steps.specs.promise.Letters.{count_of, raised, count_colour};
 
 use std::marker::Model;
 use vt_key::{Colour, MAX_COUNT, Mail};
@@ -17,7 +17,7 @@ pub struct Counts {
 }
 
 impl Model for Counts {
-    ghost use Rattle.vt_steps.specs.Letters.{Counts};
+    ghost use Rattle.vt_steps.specs.promise.Letters.{Counts};
 
     ghost Value = { Counts };
 

@@ -1,15 +1,15 @@
 //! The worker's part of a cut, and what it reports.
 
 ghost use Rattle.std.specs.Prelude.{◌≡◌, map};
-ghost use Rattle.vt_key.specs.Letters.{other_colour};
-ghost use Rattle.vt_key.specs.Times.{earlier};
-ghost use Rattle.vt_model.specs.Handler.{Handlers};
-ghost use Rattle.vt_model.specs.Settings.{end_of};
-ghost use Rattle.vt_steps.specs.Letters.{least_time, count_of};
-ghost use Rattle.vt_steps.specs.World.{Part};
-ghost use Rattle.vt_steps.specs.PartSteps.{part_after_cut, report_sent, report_got, report_least};
-ghost use Rattle.vt_kernel.specs.Held.{StandsFor};
-ghost use Rattle.vt_kernel.specs.Guards.{held_letters};
+ghost use Rattle.vt_key.specs.promise.Letters.{other_colour};
+ghost use Rattle.vt_key.specs.promise.Times.{earlier};
+ghost use Rattle.vt_model.specs.promise.Handler.{Handlers};
+ghost use Rattle.vt_model.specs.promise.Settings.{end_of};
+ghost use Rattle.vt_steps.specs.promise.Letters.{least_time, count_of};
+ghost use Rattle.vt_steps.specs.promise.World.{Part};
+ghost use Rattle.vt_steps.specs.promise.PartSteps.{part_after_cut, report_sent, report_got, report_least};
+ghost use Rattle.vt_kernel.specs.inside.Held.{StandsFor};
+ghost use Rattle.vt_kernel.specs.inside.Guards.{held_letters};
 
 use crate::kernel::Kernel;
 use vt_key::{Mail, When};

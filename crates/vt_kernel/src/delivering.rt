@@ -2,10 +2,10 @@
 
 ghost use Rattle.std.specs.Prelude.{◌≡◌, ◌<◌, ◌⊎◌, IfErr, true, false};
 ghost use Rattle.vt_key.specs.declared.fault.Fault.TheVariants.{NotLawful, Memory};
-ghost use Rattle.vt_model.specs.Handler.{Handlers};
+ghost use Rattle.vt_model.specs.promise.Handler.{Handlers};
 ghost use Rattle.vt_steps.specs.declared.step.Step.TheVariants as step;
-ghost use Rattle.vt_lp.specs.Guards.{holds_letter};
-ghost use Rattle.vt_kernel.specs.Steps.{DoesStep, RefusesStep, RefusesAccept};
+ghost use Rattle.vt_lp.specs.inside.Guards.{holds_letter};
+ghost use Rattle.vt_kernel.specs.inside.Steps.{DoesStep, RefusesStep, RefusesAccept};
 
 use crate::kernel::Kernel;
 use std::alloc::Global;

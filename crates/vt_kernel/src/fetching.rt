@@ -2,12 +2,12 @@
 
 ghost use Rattle.std.specs.Prelude.{◌≡◌, ◌<◌, [], true, IfOk, IfErr};
 ghost use Rattle.vt_key.specs.declared.fault.Fault.TheVariants.{NotLawful, Exhausted};
-ghost use Rattle.vt_model.specs.Handler.{Handlers};
-ghost use Rattle.vt_steps.specs.Letters.{is_empty};
-ghost use Rattle.vt_steps.specs.World.{Part};
-ghost use Rattle.vt_steps.specs.PartSteps.{part_after_fetch};
-ghost use Rattle.vt_kernel.specs.Held.{StandsFor, AllOwnMail, AreCounted};
-ghost use Rattle.vt_kernel.specs.Steps.{held_after_fetch, IsTakeRefusal};
+ghost use Rattle.vt_model.specs.promise.Handler.{Handlers};
+ghost use Rattle.vt_steps.specs.promise.Letters.{is_empty};
+ghost use Rattle.vt_steps.specs.promise.World.{Part};
+ghost use Rattle.vt_steps.specs.promise.PartSteps.{part_after_fetch};
+ghost use Rattle.vt_kernel.specs.inside.Held.{StandsFor, AllOwnMail, AreCounted};
+ghost use Rattle.vt_kernel.specs.inside.Steps.{held_after_fetch, IsTakeRefusal};
 
 use crate::counts::Counts;
 use crate::kernel::Kernel;

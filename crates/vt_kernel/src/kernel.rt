@@ -1,8 +1,8 @@
 //! The worker.
 
 ghost use Rattle.std.specs.Prelude.{◌≡◌, ◌%◌, ◌^◌, length};
-ghost use Rattle.vt_steps.specs.Letters.{count_of};
-ghost use Rattle.vt_kernel.specs.Held.{AreCounted};
+ghost use Rattle.vt_steps.specs.promise.Letters.{count_of};
+ghost use Rattle.vt_kernel.specs.inside.Held.{AreCounted};
 
 use crate::counts::Counts;
 use std::marker::Model;
@@ -37,7 +37,7 @@ pub struct Kernel<M: EventModel> {
 }
 
 impl<M: EventModel> Model for Kernel<M> {
-    ghost use Rattle.vt_kernel.specs.Held.{HeldWorker, IsWorkerInside};
+    ghost use Rattle.vt_kernel.specs.inside.Held.{HeldWorker, IsWorkerInside};
 
     ghost Value = { HeldWorker M.State M.Payload M.Kept };
 

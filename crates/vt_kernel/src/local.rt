@@ -2,14 +2,14 @@
 
 ghost use Rattle.std.specs.Prelude.{ℕ, ◌≡◌, ◌%◌, ◌/◌, ◌<◌, ◌≤◌, ◌⊎◌, IfSome, IfNone, IfOk, IfErr, None, true, false};
 ghost use Rattle.vt_key.specs.declared.fault.Fault.TheVariants.{Memory, NotLawful, Exhausted};
-ghost use Rattle.vt_model.specs.Handler.{Handlers};
-ghost use Rattle.vt_model.specs.Simulation.{simulation_of};
-ghost use Rattle.vt_steps.specs.World.{Part};
+ghost use Rattle.vt_model.specs.promise.Handler.{Handlers};
+ghost use Rattle.vt_model.specs.promise.Simulation.{simulation_of};
+ghost use Rattle.vt_steps.specs.promise.World.{Part};
 ghost use Rattle.vt_steps.specs.declared.step.Step.TheVariants as step;
-ghost use Rattle.vt_kernel.specs.Held.{StandsFor, process_of};
-ghost use Rattle.vt_kernel.specs.Guards.{has_to_undo, may_annihilate};
-ghost use Rattle.vt_kernel.specs.Steps.{DoesStep, RefusesStep, RefusesExecute};
-ghost use Rattle.vt_kernel.specs.Refusals.{PassesIn};
+ghost use Rattle.vt_kernel.specs.inside.Held.{StandsFor, process_of};
+ghost use Rattle.vt_kernel.specs.inside.Guards.{has_to_undo, may_annihilate};
+ghost use Rattle.vt_kernel.specs.inside.Steps.{DoesStep, RefusesStep, RefusesExecute};
+ghost use Rattle.vt_kernel.specs.promise.Refusals.{PassesIn};
 
 use crate::kernel::Kernel;
 use std::alloc::Global;

@@ -4,12 +4,12 @@ ghost use Rattle.std.specs.Prelude.{◌≡◌, ◌+◌, ◌<◌, ◌≤◌, ◌�
 ghost use Rattle.vt_key.specs.declared.fault.Fault.TheVariants.{Memory, Exhausted};
 ghost use Rattle.vt_key.specs.declared.letter.Sign.TheVariants.{Plus};
 ghost use Rattle.vt_key.specs.declared.limits.TheConstants.{MAX_COUNT};
-ghost use Rattle.vt_model.specs.Simulation.{simulation_of};
+ghost use Rattle.vt_model.specs.promise.Simulation.{simulation_of};
 ghost use Rattle.vt_model.specs.declared.limits.TheConstants.{MAX_SENDS};
-ghost use Rattle.vt_steps.specs.Letters.{signed};
-ghost use Rattle.vt_steps.specs.World.{process_count, start_sends, start_events, opening_part};
-ghost use Rattle.vt_lp.specs.Held.{StandsFor as ProcessStandsFor, AllWithinRun, opening_process};
-ghost use Rattle.vt_kernel.specs.Held.{StandsFor, AreProcesses};
+ghost use Rattle.vt_steps.specs.promise.Letters.{signed};
+ghost use Rattle.vt_steps.specs.promise.World.{process_count, start_sends, start_events, opening_part};
+ghost use Rattle.vt_lp.specs.inside.Held.{StandsFor as ProcessStandsFor, AllWithinRun, opening_process};
+ghost use Rattle.vt_kernel.specs.inside.Held.{StandsFor, AreProcesses};
 
 use crate::counts::Counts;
 use crate::kernel::Kernel;

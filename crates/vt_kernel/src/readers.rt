@@ -3,14 +3,14 @@
 ghost use Rattle.std.specs.Prelude.{◌≡◌, ◌⊎◌, ◌%◌, ◌^◌, false, length, Some, IsFalse, IfSome, IfNone, IfOk, IfErr, OnOk};
 ghost use Rattle.std.specs.Option.{option_copied, option_map, option_map_or};
 ghost use Rattle.vt_key.specs.declared.fault.Fault.TheVariants.{Memory, NotLawful};
-ghost use Rattle.vt_model.specs.Handler.{Handlers};
-ghost use Rattle.vt_model.specs.Simulation.{simulation_of};
-ghost use Rattle.vt_steps.specs.World.{Part};
-ghost use Rattle.vt_steps.specs.Finals.{part_values};
-ghost use Rattle.vt_kernel.specs.Held.{StandsFor, held_values, process_of, IsProcessOf};
-ghost use Rattle.vt_kernel.specs.Local.{IsSettled};
-ghost use Rattle.vt_lp.specs.Held.{executed_events};
-ghost use Rattle.vt_lp.specs.Guards.{is_unsettled};
+ghost use Rattle.vt_model.specs.promise.Handler.{Handlers};
+ghost use Rattle.vt_model.specs.promise.Simulation.{simulation_of};
+ghost use Rattle.vt_steps.specs.promise.World.{Part};
+ghost use Rattle.vt_steps.specs.inside.Finals.{part_values};
+ghost use Rattle.vt_kernel.specs.inside.Held.{StandsFor, held_values, process_of, IsProcessOf};
+ghost use Rattle.vt_kernel.specs.inside.Local.{IsSettled};
+ghost use Rattle.vt_lp.specs.inside.Held.{executed_events};
+ghost use Rattle.vt_lp.specs.inside.Guards.{is_unsettled};
 
 use crate::kernel::Kernel;
 use crate::local::place_of;

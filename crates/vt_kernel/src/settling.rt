@@ -1,12 +1,12 @@
 //! Undo and Cancel at one process, as long as one of them is lawful.
 
 ghost use Rattle.std.specs.Prelude.{◌≡◌, IsFalse};
-ghost use Rattle.vt_model.specs.Simulation.{simulation_of};
-ghost use Rattle.vt_steps.specs.World.{LogicalProcess, Part};
-ghost use Rattle.vt_lp.specs.Held.{StandsFor as ProcessStandsFor, AllWithinRun};
-ghost use Rattle.vt_kernel.specs.Held.{StandsFor, IsProcessOf};
-ghost use Rattle.vt_kernel.specs.Guards.{SettlesTo};
-ghost use Rattle.vt_kernel.specs.Settled.{IsSettledTo};
+ghost use Rattle.vt_model.specs.promise.Simulation.{simulation_of};
+ghost use Rattle.vt_steps.specs.promise.World.{LogicalProcess, Part};
+ghost use Rattle.vt_lp.specs.inside.Held.{StandsFor as ProcessStandsFor, AllWithinRun};
+ghost use Rattle.vt_kernel.specs.inside.Held.{StandsFor, IsProcessOf};
+ghost use Rattle.vt_kernel.specs.inside.Guards.{SettlesTo};
+ghost use Rattle.vt_kernel.specs.inside.Settled.{IsSettledTo};
 
 use crate::kernel::Kernel;
 use crate::local::place_of;

@@ -3,7 +3,7 @@
 ghost use Rattle.std.specs.Prelude.{◌≡◌, slice_get};
 ghost use Rattle.std.specs.Option.{option_map};
 ghost use Rattle.std.specs.List.{find};
-ghost use Rattle.vt_steps.specs.PartSteps.{is_for};
+ghost use Rattle.vt_steps.specs.promise.PartSteps.{is_for};
 
 use crate::kernel::Kernel;
 use vt_model::Model as EventModel;

@@ -3,8 +3,9 @@ use Rattle.std.proofs.Common.{◌≡◌, ◌<◌, ◌^◌, arith}
 use Rattle.std.proofs.lemmas.Bool.Decides.{nat_tests}
 use Rattle.std.specs.Prelude.{nat_lt}
 use Rattle.std.specs.Ordering.{nat_cmp}
-use Rattle.vt_key.specs.Keys.{Key, key_cmp, key_head}
-use Rattle.vt_key.specs.Order.{key_before}
+use Rattle.vt_key.specs.promise.Keys.{Key}
+use Rattle.vt_key.specs.inside.Keys.{key_cmp, key_head}
+use Rattle.vt_key.specs.promise.Order.{key_before}
 
 -- keys of one head have one time and one source
 one_time : (a b : Key) → a.source < 2 ^ 32 → b.source < 2 ^ 32 → key_head a ≡ key_head b → a.time ≡ b.time

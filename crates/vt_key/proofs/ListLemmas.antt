@@ -3,8 +3,8 @@
 use Rattle.std.proofs.Common.{◌≡◌, ℕ, zero, suc, ◌+◌, ◌-◌, ◌≤◌, ◌<◌, ◌⊎◌, inl, inr, Bool, true, false, cond, List, [], ◌∷◌, ◌++◌, map, length, take, drop, replicate, refl, sym, ◌∙◌, ap, subst, arith, Some, None, slice_get, slice_set}
 use Rattle.std.specs.List.{filter, find, flat_map, last_or, range_with_len, remove, AllByRecursion}
 use Rattle.std.proofs.lemmas.Bool.{cases_order}
-use Rattle.vt_key.specs.Queues.{insert_ordered, without_first}
-use Rattle.vt_key.specs.Lists.{Among, IsRisingBy}
+use Rattle.vt_key.specs.promise.Queues.{insert_ordered, without_first}
+use Rattle.vt_key.specs.promise.Lists.{Among, IsRisingBy}
 
 -- ---- each element
 

@@ -2,10 +2,11 @@
 use Rattle.std.proofs.Common.{◌≡◌, subst, ap, ℕ, ◌<◌, ◌⊎◌, inl, inr, arith, Bool, true, false, ◌||◌, ◌&&◌, sym, ◌∙◌}
 use Rattle.std.proofs.lemmas.Bool.Decides.{nat_tests}
 use Rattle.std.proofs.lemmas.Bool.{cases_order, cases_Bool}
-use Rattle.vt_key.specs.Keys.{Key}
+use Rattle.vt_key.specs.promise.Keys.{Key}
 use Rattle.vt_key.specs.declared.order.Stamp.{Stamp}
 use Rattle.vt_key.specs.declared.order.Rank.{Rank}
-use Rattle.vt_key.specs.Order.{KeyBefore, StampBefore, RankBefore, key_before, key_same, stamp_before, stamp_same, rank_before, rank_same, IsStrictTotal}
+use Rattle.vt_key.specs.promise.Order.{KeyBefore, key_before, key_same, stamp_before, stamp_same, rank_before, rank_same}
+use Rattle.vt_key.specs.inside.Order.{StampBefore, RankBefore, IsStrictTotal}
 
 -- ---- keys
 

@@ -2,8 +2,10 @@
 use Rattle.std.proofs.Common.{Bool, true, false, ◌||◌, if◌then◌else◌, ◌≡◌, refl, sym, ◌∙◌, inl, inr, subst}
 use Rattle.std.specs.Prelude.{List, [], ◌∷◌}
 use Rattle.std.specs.List.{list_any}
-use Rattle.vt_key.specs.Order.{RankBefore, rank_before, rank_same}
-use Rattle.vt_key.specs.Queues.{without_first, letter_rank, has_rank, insert_letter, holds_rank, AllAfter, IsRising}
+use Rattle.vt_key.specs.promise.Order.{rank_before, rank_same}
+use Rattle.vt_key.specs.inside.Order.{RankBefore}
+use Rattle.vt_key.specs.promise.Queues.{without_first, letter_rank, has_rank, insert_letter}
+use Rattle.vt_key.specs.inside.Queues.{holds_rank, AllAfter, IsRising}
 use Rattle.vt_key.specs.declared.order.Rank.{Rank}
 use Rattle.vt_key.specs.declared.letter.Letter.{Letter}
 use Rattle.vt_key.proofs.ListLemmas.{every-weaker, every-insert_ordered, every-without_first}

@@ -1,8 +1,2 @@
-pub mod Faults
-pub mod Keys
-pub mod Letters
-pub mod Lists
-pub mod Order
-pub mod Pairs
-pub mod Queues
-pub mod Times
+pub mod promise
+pub mod inside

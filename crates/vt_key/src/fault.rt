@@ -1,7 +1,7 @@
 //! Why a call was refused.
 
 ghost use Rattle.std.specs.Prelude.{◌≡◌};
-ghost use Rattle.vt_key.specs.Faults.{fault_number};
+ghost use Rattle.vt_key.specs.promise.Faults.{fault_number};
 
 use thiserror::Error;
 

@@ -1,7 +1,7 @@
 //! Events, the letters that bring them or take them back, and the mail between workers.
 
 ghost use Rattle.std.specs.Prelude.{◌≡◌};
-ghost use Rattle.vt_key.specs.Letters.{other_colour};
+ghost use Rattle.vt_key.specs.promise.Letters.{other_colour};
 ghost use Rattle.vt_key.specs.declared.order.Rank.{Rank};
 
 use crate::Rank;

@@ -5,8 +5,9 @@ ghost use Rattle.std.specs.Ordering.{on, eq_of_both, as_partial_cmp};
 ghost use Rattle.std.specs.Cmp.{partial_order_from_own_ties};
 ghost use Rattle.std.proofs.Common.{rules};
 ghost use Rattle.std.specs.Cmp.Rules.{comparing};
-ghost use Rattle.vt_key.specs.Keys.{key_cmp, key_head};
-ghost use Rattle.vt_key.specs.Order.{KeyBefore, StampBefore, RankBefore, key_before, rank_before, rank_same, stamp_same, IsStrictTotal};
+ghost use Rattle.vt_key.specs.inside.Keys.{key_cmp, key_head};
+ghost use Rattle.vt_key.specs.promise.Order.{KeyBefore, key_before, rank_before, rank_same, stamp_same};
+ghost use Rattle.vt_key.specs.inside.Order.{StampBefore, RankBefore, IsStrictTotal};
 
 use crate::When;
 use std::cmp::Ordering;
@@ -31,12 +32,12 @@ pub struct Key {
 
 impl Model for Key {
     ghost use Rattle.std.specs.Prelude.{◌<◌};
-    ghost use Rattle.vt_key.specs.Keys.{Key};
-    ghost use Rattle.vt_key.specs.Times.{at, ticks_of, priority_of};
+    ghost use Rattle.vt_key.specs.promise.Keys.{Key};
+    ghost use Rattle.vt_key.specs.promise.Times.{at, ticks_of, priority_of};
 
     ghost Value = { Key };
 
-    ghost use Rattle.vt_key.specs.Pairs.{key_again};
+    ghost use Rattle.vt_key.specs.inside.Pairs.{key_again};
 
     ghost view = { λ k. record { time = at k.ticks k.priority; source = k.source; number = k.number } };
 
@@ -81,7 +82,7 @@ impl Key {
         self.number
     }
 
-    #[tactic(auto, unfolding(crate::specs::Order::key_before))]
+    #[tactic(auto, unfolding(crate::specs::promise::Order::key_before))]
     /// Whether this key is before the other.
     pub fn is_before(&self, other: &Key) -> bool
         ensures { result ≡ key_before self.now other.now }
@@ -159,7 +160,7 @@ pub struct Stamp {
 }
 
 impl Stamp {
-    #[tactic(auto, unfolding(crate::specs::Order::stamp_same))]
+    #[tactic(auto, unfolding(crate::specs::promise::Order::stamp_same))]
     /// Whether the two stamps are equal.
     pub fn is_same(&self, other: &Stamp) -> bool
         ensures { result ≡ stamp_same self.now other.now }
@@ -178,7 +179,7 @@ pub struct Rank {
 }
 
 impl Rank {
-    #[tactic(auto, unfolding(crate::specs::Order::rank_before, crate::specs::Order::key_before, crate::specs::Order::key_same, crate::specs::Order::stamp_before))]
+    #[tactic(auto, unfolding(crate::specs::promise::Order::rank_before, crate::specs::promise::Order::key_before, crate::specs::promise::Order::key_same, crate::specs::promise::Order::stamp_before))]
     /// Whether this rank is before the other.
     pub fn is_before(&self, other: &Rank) -> bool
         ensures { result ≡ rank_before self.now other.now }
@@ -186,7 +187,7 @@ impl Rank {
         self.key.is_before(&other.key) || (self.key == other.key && self.stamp < other.stamp)
     }
 
-    #[tactic(auto, unfolding(crate::specs::Order::rank_same, crate::specs::Order::key_same, crate::specs::Order::stamp_same))]
+    #[tactic(auto, unfolding(crate::specs::promise::Order::rank_same, crate::specs::promise::Order::key_same, crate::specs::promise::Order::stamp_same))]
     /// Whether the two ranks are equal.
     pub fn is_same(&self, other: &Rank) -> bool
         ensures { result ≡ rank_same self.now other.now }

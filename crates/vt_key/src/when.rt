@@ -5,7 +5,7 @@ ghost use Rattle.std.specs.Ordering.{nat_cmp, as_partial_cmp};
 ghost use Rattle.std.specs.Cmp.{partial_order_from_own_ties};
 ghost use Rattle.std.proofs.Common.{rules};
 ghost use Rattle.std.specs.Cmp.Rules.{comparing};
-ghost use Rattle.vt_key.specs.Times.{TimeBefore, at, ticks_of, priority_of, earlier};
+ghost use Rattle.vt_key.specs.promise.Times.{TimeBefore, at, ticks_of, priority_of, earlier};
 
 use std::cmp::Ordering;
 use std::marker::Model;
@@ -27,8 +27,8 @@ pub struct When {
 impl Model for When {
     ghost use Rattle.std.specs.Prelude.{ℕ, ◌<◌};
     ghost use Rattle.std.specs.Coded.{coded_ℕ};
-    ghost use Rattle.vt_key.specs.Times.{at, ticks_of, priority_of};
-    ghost use Rattle.vt_key.specs.Pairs.{pair_again};
+    ghost use Rattle.vt_key.specs.promise.Times.{at, ticks_of, priority_of};
+    ghost use Rattle.vt_key.specs.inside.Pairs.{pair_again};
 
     ghost Value = { ℕ };
 

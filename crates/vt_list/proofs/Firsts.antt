@@ -2,10 +2,10 @@
 use Rattle.std.proofs.Common.{Bool, true, false, if◌then◌else◌, ◌≡◌, refl, sym, ap, ◌∙◌}
 use Rattle.std.specs.Prelude.{ℕ, zero, suc, List, [], ◌∷◌, ◌++◌, take, drop, Option, Some, None, MatchOption, find, remove, slice_get}
 use Rattle.std.specs.Option.{option_map}
-use Rattle.vt_key.specs.Order.{rank_before}
-use Rattle.vt_key.specs.Queues.{without_first, insert_ordered}
+use Rattle.vt_key.specs.promise.Order.{rank_before}
+use Rattle.vt_key.specs.promise.Queues.{without_first, insert_ordered}
 use Rattle.vt_key.specs.declared.order.Rank.{Rank}
-use Rattle.vt_nodes.specs.First.{before_first, from_first}
+use Rattle.vt_nodes.specs.inside.First.{before_first, from_first}
 
 -- what taking the first item off a list tells, if the item that came is `o` seen by f, and the others are `rest`
 abbrev pub TakesOff : {X Y : Type 0} → (Y → X) → List X → Option Y → List X → Type 0

@@ -17,7 +17,7 @@ pub struct Iter<'a, T> {
 
 impl<'a, T> Model for Iter<'a, T> {
     ghost use Rattle.std.specs.Prelude.{◌≡◌, List, None};
-    ghost use Rattle.vt_nodes.specs.Linked.{first_or, items, LeadOn};
+    ghost use Rattle.vt_nodes.specs.inside.Linked.{first_or, items, LeadOn};
 
     ghost Value = { List T };
 
@@ -93,7 +93,7 @@ pub struct IterBack<'a, T> {
 
 impl<'a, T> Model for IterBack<'a, T> {
     ghost use Rattle.std.specs.Prelude.{◌≡◌, List, None, reverse};
-    ghost use Rattle.vt_nodes.specs.Linked.{last_or, items, LeadBack};
+    ghost use Rattle.vt_nodes.specs.inside.Linked.{last_or, items, LeadBack};
 
     ghost Value = { List T };
 
@@ -139,8 +139,8 @@ pub struct IterLines<'a, T> {
 
 impl<'a, T> Model for IterLines<'a, T> {
     ghost use Rattle.std.specs.Prelude.{◌≡◌, List, None, map};
-    ghost use Rattle.vt_nodes.specs.Linked.{first_or, items};
-    ghost use Rattle.vt_nodes.specs.Lines.{lines_of, StandInRow};
+    ghost use Rattle.vt_nodes.specs.inside.Linked.{first_or, items};
+    ghost use Rattle.vt_nodes.specs.inside.Lines.{lines_of, StandInRow};
 
     ghost Value = { List (List T) };
 

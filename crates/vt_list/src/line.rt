@@ -2,8 +2,8 @@
 
 ghost use Rattle.std.specs.Prelude.{◌≡◌, ◌↔◌, [], ◌∷◌, ◌++◌, slice_get, find, MatchOption, IsTrue};
 ghost use Rattle.std.specs.Option.{option_copied};
-ghost use Rattle.vt_key.specs.Queues.{without_first};
-ghost use Rattle.vt_nodes.specs.First.{before_first, from_first};
+ghost use Rattle.vt_key.specs.promise.Queues.{without_first};
+ghost use Rattle.vt_nodes.specs.inside.First.{before_first, from_first};
 
 use crate::iter::Iter;
 use crate::parcel::Parcel;

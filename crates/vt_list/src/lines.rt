@@ -2,8 +2,8 @@
 
 ghost use Rattle.std.specs.Prelude.{◌≡◌, ◌≢◌, ◌↔◌, [], ◌∷◌, ◌++◌, MatchOption, IfNone, IfSome, IsTrue};
 ghost use Rattle.std.specs.Option.{option_copied};
-ghost use Rattle.vt_nodes.specs.First.{before_first, from_first};
-ghost use Rattle.vt_nodes.specs.Lines.{first_item, begins_with};
+ghost use Rattle.vt_nodes.specs.inside.First.{before_first, from_first};
+ghost use Rattle.vt_nodes.specs.inside.Lines.{first_item, begins_with};
 
 use crate::iter::IterLines;
 use crate::line::Line;

@@ -3,8 +3,8 @@
 ghost use Rattle.std.specs.Prelude.{◌≡◌, ◌-◌, ◌<◌, ◌%◌, ◌^◌, ◌↔◌, [], ◌∷◌, ◌++◌, length, slice_get, find, remove, reverse, MatchOption, IsTrue};
 ghost use Rattle.std.specs.Option.{option_copied};
 ghost use Rattle.std_heap.specs.declared.Global.{Global as GlobalHandle};
-ghost use Rattle.vt_key.specs.Order.{rank_before};
-ghost use Rattle.vt_key.specs.Queues.{without_first, insert_ordered};
+ghost use Rattle.vt_key.specs.promise.Order.{rank_before};
+ghost use Rattle.vt_key.specs.promise.Queues.{without_first, insert_ordered};
 
 use crate::iter::{Iter, IterBack};
 use crate::parcel::Parcel;
@@ -236,7 +236,7 @@ impl<T: Drop + Ranked> List<T> {
 struct RankedAfter(Rank);
 
 impl<T: Ranked> Predicate<T> for RankedAfter {
-    ghost use Rattle.vt_key.specs.Order.{rank_before};
+    ghost use Rattle.vt_key.specs.promise.Order.{rank_before};
 
     ghost passes = { λ t x. rank_before t.0 (T.rank_of x) };
 

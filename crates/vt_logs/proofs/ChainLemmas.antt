@@ -4,15 +4,15 @@ use Rattle.std.specs.List.{filter, last_or, list_any, AllByRecursion}
 use Rattle.std.proofs.lemmas.List.{append-nil, drop-append-le, length-set, length_push, map-append, same_from_push}
 use Rattle.std.proofs.lemmas.List.Elements.{filter-append}
 use Rattle.std.proofs.lemmas.Bool.Decides.{nat_tests}
-use Rattle.vt_key.specs.Lists.{Among, IsRisingBy}
-use Rattle.vt_key.specs.Times.{Time, TimeAtMost}
+use Rattle.vt_key.specs.promise.Lists.{Among, IsRisingBy}
+use Rattle.vt_key.specs.promise.Times.{Time, TimeAtMost}
 use Rattle.vt_key.proofs.ListLemmas.{every-among, every-filter, every-right, every-weaker, filter-among, rising-unmap}
 use Rattle.vt_model.specs.declared.sending.Sent.{Sent}
 use Rattle.vt_logs.specs.declared.slot.Place.{Place}
-use Rattle.vt_logs.specs.Events.{Logged, time_of, is_below, is_of, events_of, last_of, without_last, AreInOrder}
-use Rattle.vt_logs.specs.Sheets.{Noted, NonePasses, PassesAlone}
-use Rattle.vt_logs.specs.Shelves.{same_place, lies_at, lies_elsewhere, placed_events, placed_stays}
-use Rattle.vt_logs.specs.Chains.{is_placed_of, IsChain, AreChained, anywhere}
+use Rattle.vt_logs.specs.inside.Events.{Logged, time_of, is_below, is_of, events_of, last_of, without_last, AreInOrder}
+use Rattle.vt_logs.specs.inside.Sheets.{Noted, NonePasses, PassesAlone}
+use Rattle.vt_logs.specs.inside.Shelves.{same_place, lies_at, lies_elsewhere, placed_events, placed_stays}
+use Rattle.vt_logs.specs.inside.Chains.{is_placed_of, IsChain, AreChained, anywhere}
 use Rattle.vt_logs.proofs.PresentLemmas.{alone-all, alone-filter, any-behind, filter-all}
 use Rattle.vt_logs.proofs.ShelfLemmas.{apart-false, apart-true, eqb-self, eqb-swap, filter-map, none-any}
 

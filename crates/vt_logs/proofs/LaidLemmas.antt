@@ -5,7 +5,7 @@ use Rattle.std.proofs.lemmas.List.{take-append-le, drop-append-le, drop_at, take
 use Rattle.vt_model.specs.declared.rows.Record.{Record}
 use Rattle.vt_model.specs.declared.sending.Sent.{Sent}
 use Rattle.vt_logs.specs.declared.slot.Slot.{Slot}
-use Rattle.vt_logs.specs.Sheets.{AreLaid, range_of, noted, noted_event}
+use Rattle.vt_logs.specs.inside.Sheets.{AreLaid, range_of, noted, noted_event}
 
 module _ {X : Type 0} (first count : X → ℕ) where
   pub laid-push : (from to : ℕ) (xs : List X) (x : X) → AreLaid first count from xs to → first x ≡ to → AreLaid first count from (xs ++ x ∷ []) (to + count x)

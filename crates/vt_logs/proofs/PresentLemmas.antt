@@ -6,7 +6,7 @@ use Rattle.std.specs.Ordering.{is_lt, nat_cmp}
 use Rattle.std.proofs.lemmas.List.Elements.{filter-append}
 use Rattle.std.proofs.lemmas.List.Sums.{sum_by-append, sum_by-cons}
 use Rattle.vt_key.proofs.ListLemmas.{every-weaker, every-append, every-right, every-all}
-use Rattle.vt_logs.specs.Sheets.{present_from, NonePasses, PassesAlone}
+use Rattle.vt_logs.specs.inside.Sheets.{present_from, NonePasses, PassesAlone}
 
 -- ---- the one that passes a test
 

@@ -9,18 +9,18 @@ use Rattle.std.proofs.lemmas.List.Sums.{sum_by_push}
 use Rattle.std.specs.Ordering.{is_ge, is_lt, nat_cmp}
 use Rattle.std.proofs.lemmas.Option.{slice_get-map}
 use Rattle.std.proofs.lemmas.Bool.Decides.{nat_tests}
-use Rattle.vt_key.specs.Times.{Time}
+use Rattle.vt_key.specs.promise.Times.{Time}
 use Rattle.vt_key.proofs.ListLemmas.{every-append, every-both, every-filter, every-get, every-left, every-map, every-put, every-weaker}
-use Rattle.vt_key.specs.Keys.{Key}
+use Rattle.vt_key.specs.promise.Keys.{Key}
 use Rattle.vt_key.specs.declared.order.Stamp.{Stamp}
-use Rattle.vt_model.specs.Simulation.{rows_of}
+use Rattle.vt_model.specs.promise.Simulation.{rows_of}
 use Rattle.vt_model.specs.declared.limits.TheConstants.{MAX_RECORDS}
 use Rattle.vt_model.specs.declared.rows.Record.{Record}
 use Rattle.vt_model.specs.declared.rows.Row.{Row}
 use Rattle.vt_model.specs.declared.sending.Sent.{Sent}
 use Rattle.vt_logs.specs.declared.slot.Slot.{Slot}
-use Rattle.vt_logs.specs.Events.{Logged, time_of, is_below, is_stamped, event_rows, rows_below}
-use Rattle.vt_logs.specs.Sheets.{Noted, put_if, present_from, NonePasses, PassesAlone, AreLaid, range_of, noted, noted_event, live_in, events_in, has_slot_stamp, slot_rows, is_at, is_elsewhere, stays, nodes_at, IsDated, IsSheet}
+use Rattle.vt_logs.specs.inside.Events.{Logged, time_of, is_below, is_stamped, event_rows, rows_below}
+use Rattle.vt_logs.specs.inside.Sheets.{Noted, put_if, present_from, NonePasses, PassesAlone, AreLaid, range_of, noted, noted_event, live_in, events_in, has_slot_stamp, slot_rows, is_at, is_elsewhere, stays, nodes_at, IsDated, IsSheet}
 use Rattle.vt_logs.proofs.PresentLemmas.{filter-none, filter-all, alone-sum, present-push, present-pop, present-alone, present-none, present-removed, present-high}
 use Rattle.vt_logs.proofs.LaidLemmas.{laid-push, laid-pop, laid-fits, laid-last, laid-set, range-new, noted-grow}
 

@@ -9,13 +9,13 @@ use Rattle.std.proofs.lemmas.Option.{slice_get-get_or}
 use Rattle.std.proofs.lemmas.List.Filters.{sum_by-filter_both}
 use Rattle.std.proofs.lemmas.Bool.{cases_lt}
 use Rattle.std.proofs.lemmas.Bool.Decides.{nat_tests}
-use Rattle.vt_key.specs.Times.{Time}
+use Rattle.vt_key.specs.promise.Times.{Time}
 use Rattle.vt_key.proofs.ListLemmas.{every-all, every-append, every-filter, every-flat_map, every-get, every-left, every-map, every-right, every-weaker}
 use Rattle.vt_logs.specs.declared.slot.Place.{Place}
-use Rattle.vt_logs.specs.Sheets.{Noted, Page, NonePasses, PassesAlone, is_at, is_elsewhere, is_blank, nodes_at, events_in}
-use Rattle.vt_logs.specs.Shelves.{lies_at, lies_elsewhere, placed_stays, placed_nodes, page_at, put_at, placed_of, placed_on, blank_page, page_below, page_rows, page_has_stamp, placed_events, is_used, is_unused, AreFiltered, IsShelf}
+use Rattle.vt_logs.specs.inside.Sheets.{Noted, Page, NonePasses, PassesAlone, is_at, is_elsewhere, is_blank, nodes_at, events_in}
+use Rattle.vt_logs.specs.inside.Shelves.{lies_at, lies_elsewhere, placed_stays, placed_nodes, page_at, put_at, placed_of, placed_on, blank_page, page_below, page_rows, page_has_stamp, placed_events, is_used, is_unused, AreFiltered, IsShelf}
 use Rattle.vt_key.specs.declared.order.Stamp.{Stamp}
-use Rattle.vt_logs.specs.Events.{is_stamped, rows_below}
+use Rattle.vt_logs.specs.inside.Events.{is_stamped, rows_below}
 use Rattle.vt_logs.proofs.SheetLemmas.{rows_below-append}
 use Rattle.vt_logs.proofs.PresentLemmas.{alone-between, alone-none, any-append, filter-same, filter-all}
 

@@ -1,4 +1,1 @@
-pub mod Events
-pub mod Sheets
-pub mod Shelves
-pub mod Chains
+pub mod inside

@@ -5,7 +5,7 @@ ghost use Rattle.std.specs.Option.{option_map};
 ghost use Rattle.std.specs.List.{filter, list_any};
 ghost use Rattle.vt_key.specs.declared.fault.Fault.TheVariants.{Memory};
 ghost use Rattle.vt_model.specs.declared.limits.TheConstants.{MAX_RECORDS, MAX_SENDS};
-ghost use Rattle.vt_logs.specs.Events.{is_stamped, is_above, all_nodes, last_of, Logged, without_last, rows_below, AreInOrder};
+ghost use Rattle.vt_logs.specs.inside.Events.{is_stamped, is_above, all_nodes, last_of, Logged, without_last, rows_below, AreInOrder};
 
 use crate::entry::Entry;
 use crate::shelf::Shelf;
@@ -29,12 +29,12 @@ pub struct Log<P: Copy, K: Copy> {
 
 impl<P: Copy, K: Copy> Model for Log<P, K> {
     ghost use Rattle.std.specs.Prelude.{length};
-    ghost use Rattle.vt_logs.specs.Events.{HeldLog};
+    ghost use Rattle.vt_logs.specs.inside.Events.{HeldLog};
 
     ghost Value = { HeldLog P K };
 
-    ghost use Rattle.vt_logs.specs.Shelves.{placed_events};
-    ghost use Rattle.vt_logs.specs.Chains.{AreChained};
+    ghost use Rattle.vt_logs.specs.inside.Shelves.{placed_events};
+    ghost use Rattle.vt_logs.specs.inside.Chains.{AreChained};
 
     ghost view = { λ l. record { events = placed_events l.shelf.placed; processes = length l.lasts.items; has_room = l.shelf.has_room } };
 

@@ -4,9 +4,9 @@ ghost use Rattle.std.specs.Prelude.{◌≡◌, ◌+◌, ◌^◌, ◌<◌, ◌≤
 ghost use Rattle.std.specs.Vec.{vec_len, vec_capacity};
 ghost use Rattle.std.specs.List.{filter, flat_map, list_any, sum_by, AllByRecursion};
 ghost use Rattle.vt_key.specs.declared.fault.Fault.TheVariants.{Memory};
-ghost use Rattle.vt_logs.specs.Sheets.{Noted, NonePasses, PassesAlone, IsSlotOf, is_at, is_elsewhere, stays, nodes_at, is_blank, noted_event, events_in, range_of, has_slot_stamp, slot_rows};
-ghost use Rattle.vt_logs.specs.Events.{is_stamped, rows_below};
-ghost use Rattle.vt_model.specs.Simulation.{rows_of};
+ghost use Rattle.vt_logs.specs.inside.Sheets.{Noted, NonePasses, PassesAlone, IsSlotOf, is_at, is_elsewhere, stays, nodes_at, is_blank, noted_event, events_in, range_of, has_slot_stamp, slot_rows};
+ghost use Rattle.vt_logs.specs.inside.Events.{is_stamped, rows_below};
+ghost use Rattle.vt_model.specs.promise.Simulation.{rows_of};
 
 use crate::entry::Entry;
 use crate::slot::{Place, Slot};
@@ -44,11 +44,11 @@ pub(crate) struct Sheet<P: Copy, K: Copy> {
 impl<P: Copy, K: Copy> Model for Sheet<P, K> {
     ghost use Rattle.std.specs.Prelude.{◌≡◌, true};
     ghost use Rattle.std.specs.Vec.{vec_len, vec_capacity};
-    ghost use Rattle.vt_logs.specs.Sheets.{Page};
+    ghost use Rattle.vt_logs.specs.inside.Sheets.{Page};
 
     ghost Value = { Page P K };
 
-    ghost use Rattle.vt_logs.specs.Sheets.{live_in, IsSheet, IsRoomy};
+    ghost use Rattle.vt_logs.specs.inside.Sheets.{live_in, IsSheet, IsRoomy};
 
     ghost view = { λ s. record { live = live_in s.sends.items s.records.items s.slots.items; has_room = s.has_room } };
 

@@ -4,9 +4,9 @@ ghost use Rattle.std.specs.Prelude.{◌≡◌, ℕ, ◌+◌, ◌%◌, ◌^◌, �
 ghost use Rattle.std.specs.List.{filter, flat_map, list_any, sum_by, count_by, AllByRecursion};
 ghost use Rattle.vt_key.specs.declared.fault.Fault.TheVariants.{Memory};
 ghost use Rattle.vt_model.specs.declared.limits.TheConstants.{MAX_RECORDS as MOST_RECORDS, MAX_SENDS as MOST_SENDS};
-ghost use Rattle.vt_logs.specs.Events.{is_stamped, rows_below};
-ghost use Rattle.vt_logs.specs.Sheets.{Noted, NonePasses, PassesAlone, IsSlotOf, noted_event};
-ghost use Rattle.vt_logs.specs.Shelves.{lies_at, lies_elsewhere, placed_events, placed_nodes, placed_stays, placed_of, page_at, page_below, page_rows, page_has_stamp, is_used, is_unused};
+ghost use Rattle.vt_logs.specs.inside.Events.{is_stamped, rows_below};
+ghost use Rattle.vt_logs.specs.inside.Sheets.{Noted, NonePasses, PassesAlone, IsSlotOf, noted_event};
+ghost use Rattle.vt_logs.specs.inside.Shelves.{lies_at, lies_elsewhere, placed_events, placed_nodes, placed_stays, placed_of, page_at, page_below, page_rows, page_has_stamp, is_used, is_unused};
 
 use crate::entry::Entry;
 use crate::sheet::Sheet;
@@ -36,11 +36,11 @@ pub(crate) struct Shelf<P: Copy, K: Copy> {
 }
 
 impl<P: Copy, K: Copy> Model for Shelf<P, K> {
-    ghost use Rattle.vt_logs.specs.Shelves.{Shelved};
+    ghost use Rattle.vt_logs.specs.inside.Shelves.{Shelved};
 
     ghost Value = { Shelved P K };
 
-    ghost use Rattle.vt_logs.specs.Shelves.{placed_on, has_room_on, IsShelf};
+    ghost use Rattle.vt_logs.specs.inside.Shelves.{placed_on, has_room_on, IsShelf};
 
     ghost view = { λ s. record { placed = placed_on s.sheets.items s.full.items s.current; has_room = has_room_on s.sheets.items s.current } };
 

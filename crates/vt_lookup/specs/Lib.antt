@@ -1,1 +1,1 @@
-pub mod Undoing
+pub mod inside

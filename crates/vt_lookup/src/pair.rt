@@ -1,9 +1,9 @@
 //! One process twice: one of the two never undoes an event.
 
 ghost use Rattle.std.specs.Prelude.{◌≡◌, ◌<◌, IfOk, true};
-ghost use Rattle.vt_lookup.specs.Undoing.{event_gives, state_undone};
-ghost use Rattle.vt_model.specs.Handler.{IsFresh};
-ghost use Rattle.vt_model.specs.Settings.{end_of};
+ghost use Rattle.vt_lookup.specs.inside.Undoing.{event_gives, state_undone};
+ghost use Rattle.vt_model.specs.inside.Handler.{IsFresh};
+ghost use Rattle.vt_model.specs.promise.Settings.{end_of};
 
 use crate::difference::{Difference, Part, Place};
 use vt_key::{Fault, MAX_COUNT};

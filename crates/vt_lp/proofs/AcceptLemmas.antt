@@ -5,27 +5,28 @@ use Rattle.std.specs.List.{list_any}
 use Rattle.std.proofs.lemmas.List.Elements.{All-from_recursion, recursion_from_All, All-nil, All-cons, All-head, All-tail}
 use Rattle.std.proofs.lemmas.Bool.{cases_Bool}
 use Rattle.vt_key.proofs.RisingLemmas.{first-false, second-false}
-use Rattle.vt_key.specs.Order.{rank_before, rank_same}
-use Rattle.vt_key.specs.Times.{Time, earlier}
-use Rattle.vt_key.specs.Queues.{has_rank, insert_letter, letter_rank, holds_rank}
+use Rattle.vt_key.specs.promise.Order.{rank_before, rank_same}
+use Rattle.vt_key.specs.promise.Times.{Time, earlier}
+use Rattle.vt_key.specs.promise.Queues.{has_rank, insert_letter, letter_rank}
+use Rattle.vt_key.specs.inside.Queues.{holds_rank}
 use Rattle.vt_key.specs.declared.order.Rank.{Rank}
 use Rattle.vt_key.specs.declared.letter.Letter.{Letter}
 use Rattle.vt_key.specs.declared.letter.Sign.{Sign}
 use Rattle.vt_key.specs.declared.letter.Sign.TheVariants.{Plus, Minus}
 use Rattle.vt_key.proofs.ListLemmas.{every-insert_ordered}
 use Rattle.vt_key.proofs.OrderLemmas.{rank_same-true, same-rank_same}
-use Rattle.vt_stream.specs.Words.{Stream}
+use Rattle.vt_stream.specs.inside.Words.{Stream}
 use Rattle.vt_model.specs.declared.settings.Config.{Config}
-use Rattle.vt_model.specs.Handler.{Handlers}
-use Rattle.vt_model.specs.Settings.{end_of}
-use Rattle.vt_steps.specs.Letters.{letter_time, least_time}
+use Rattle.vt_model.specs.promise.Handler.{Handlers}
+use Rattle.vt_model.specs.promise.Settings.{end_of}
+use Rattle.vt_steps.specs.promise.Letters.{letter_time, least_time}
 use Rattle.vt_steps.proofs.letters.RankTimes.{not-after-time}
-use Rattle.vt_steps.specs.World.{LogicalProcess, entry_rank}
-use Rattle.vt_steps.specs.StandsFor.{entry_of}
-use Rattle.vt_steps.specs.ProcessSteps.{ProcessEffect, holds, with_letter, accept_process}
+use Rattle.vt_steps.specs.promise.World.{LogicalProcess, entry_rank}
+use Rattle.vt_steps.specs.inside.StandsFor.{entry_of}
+use Rattle.vt_steps.specs.promise.ProcessSteps.{ProcessEffect, holds, with_letter, accept_process}
 use Rattle.vt_past.specs.declared.event.PastEvent.{PastEvent}
-use Rattle.vt_lp.specs.Held.{HeldProcess, StandsFor, remembered, IsOwnLetter, IsNotPending, IsProcessInside}
-use Rattle.vt_lp.specs.Guards.{IsDone, holds_letter, is_first, would_lead, ready_rank, lesser_rank, TellsSame}
+use Rattle.vt_lp.specs.inside.Held.{HeldProcess, StandsFor, remembered, IsOwnLetter, IsNotPending, IsProcessInside}
+use Rattle.vt_lp.specs.inside.Guards.{IsDone, holds_letter, is_first, would_lead, ready_rank, lesser_rank, TellsSame}
 use Rattle.vt_lp.proofs.RisingLemmas.{least_time-both}
 
 -- ---- what a queue answers

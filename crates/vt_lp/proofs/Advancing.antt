@@ -10,19 +10,20 @@ use Rattle.vt_model.specs.declared.limits.TheConstants.{MAX_DRAWS, MAX_RECORDS}
 use Rattle.vt_model.specs.declared.rows.Record.{Record}
 use Rattle.vt_model.specs.declared.settings.Config.{Config}
 use Rattle.vt_model.specs.declared.sending.Sent.{Sent}
-use Rattle.vt_model.specs.Handler.{Handlers, IsWithinLimits, AreWords}
-use Rattle.vt_model.specs.Process.{IsProcessStream}
-use Rattle.vt_model.specs.Sends.{RecordRequest, requested_records}
+use Rattle.vt_model.specs.promise.Handler.{Handlers}
+use Rattle.vt_model.specs.inside.Handler.{IsWithinLimits, AreWords}
+use Rattle.vt_model.specs.inside.Process.{IsProcessStream}
+use Rattle.vt_model.specs.promise.Sends.{RecordRequest, requested_records}
 use Rattle.vt_model.proofs.LawLemmas.{are_words}
-use Rattle.vt_key.specs.Keys.{Key}
-use Rattle.vt_stream.specs.Words.{Stream, moved}
-use Rattle.vt_model.specs.Simulation.{Triple, words_at, fire_of, simulation_of, rows_of}
-use Rattle.vt_steps.specs.Letters.{unstamped, stamped, signed}
-use Rattle.vt_steps.specs.StandsFor.{IsRemembered}
+use Rattle.vt_key.specs.promise.Keys.{Key}
+use Rattle.vt_stream.specs.inside.Words.{Stream, moved}
+use Rattle.vt_model.specs.promise.Simulation.{Triple, words_at, fire_of, simulation_of, rows_of}
+use Rattle.vt_steps.specs.promise.Letters.{unstamped, stamped, signed}
+use Rattle.vt_steps.specs.inside.StandsFor.{IsRemembered}
 use Rattle.vt_steps.proofs.letters.Stamped.{unstamped-stamped}
 use Rattle.vt_past.specs.declared.event.UndoEntry.{UndoEntry}
-use Rattle.vt_lp.specs.Held.{remembered, way_back}
-use Rattle.vt_past.specs.Events.{past_event}
+use Rattle.vt_lp.specs.inside.Held.{remembered, way_back}
+use Rattle.vt_past.specs.inside.Events.{past_event}
 
 -- drawn words given back
 pub place-back : (at n : ℕ) → at < 2 ^ 64 → n ≤ MAX_DRAWS → ((at + n) % 2 ^ 64 + (2 ^ 64 - n)) % 2 ^ 64 ≡ at

@@ -8,20 +8,21 @@ use Rattle.vt_key.specs.declared.order.Stamp.{Stamp}
 use Rattle.vt_key.specs.declared.letter.Letter.{Letter}
 use Rattle.vt_key.specs.declared.letter.Sign.TheVariants.{Plus, Minus}
 use Rattle.vt_key.proofs.OrderLemmas.{stamp_same-true}
-use Rattle.vt_stream.specs.Words.{Stream}
+use Rattle.vt_stream.specs.inside.Words.{Stream}
 use Rattle.vt_model.specs.declared.settings.Config.{Config}
-use Rattle.vt_model.specs.Handler.{Handlers}
-use Rattle.vt_model.specs.Settings.{end_of}
-use Rattle.vt_key.specs.Queues.{has_stamp, without_first, has_rank, holds_rank}
-use Rattle.vt_key.specs.Lists.{Among}
-use Rattle.vt_steps.specs.World.{LogicalProcess}
-use Rattle.vt_steps.specs.ProcessSteps.{ProcessEffect, are_opposite, cancel_process, can_annihilate}
+use Rattle.vt_model.specs.promise.Handler.{Handlers}
+use Rattle.vt_model.specs.promise.Settings.{end_of}
+use Rattle.vt_key.specs.promise.Queues.{has_stamp, without_first, has_rank}
+use Rattle.vt_key.specs.inside.Queues.{holds_rank}
+use Rattle.vt_key.specs.promise.Lists.{Among}
+use Rattle.vt_steps.specs.promise.World.{LogicalProcess}
+use Rattle.vt_steps.specs.promise.ProcessSteps.{ProcessEffect, are_opposite, cancel_process, can_annihilate}
 use Rattle.vt_key.proofs.ListLemmas.{every-without_first, find-among, find-passes}
-use Rattle.vt_pending.specs.Letters.{without_stamp}
+use Rattle.vt_pending.specs.inside.Letters.{without_stamp}
 use Rattle.vt_past.specs.declared.event.PastEvent.{PastEvent}
-use Rattle.vt_lp.specs.Held.{HeldProcess, StandsFor, IsOwnLetter, IsNotPending, IsProcessInside}
-use Rattle.vt_lp.specs.Guards.{IsDone}
-use Rattle.vt_past.specs.Kept.{KeptNodes, one_if_some}
+use Rattle.vt_lp.specs.inside.Held.{HeldProcess, StandsFor, IsOwnLetter, IsNotPending, IsProcessInside}
+use Rattle.vt_lp.specs.inside.Guards.{IsDone}
+use Rattle.vt_past.specs.inside.Kept.{KeptNodes, one_if_some}
 
 module _ {P : Type 0} where
   -- ---- what the process keeps to

@@ -1,8 +1,10 @@
 -- No letter after a rank has it.
 use Rattle.std.proofs.Common.{◌≡◌, ◌||◌, false, List, [], ◌∷◌, refl, subst, ◌∙◌, ap, inl, inr}
 use Rattle.std.proofs.lemmas.Bool.{cases_Bool}
-use Rattle.vt_key.specs.Order.{RankBefore, rank_same}
-use Rattle.vt_key.specs.Queues.{letter_rank, holds_rank, AllAfter}
+use Rattle.vt_key.specs.promise.Order.{rank_same}
+use Rattle.vt_key.specs.inside.Order.{RankBefore}
+use Rattle.vt_key.specs.promise.Queues.{letter_rank}
+use Rattle.vt_key.specs.inside.Queues.{holds_rank, AllAfter}
 use Rattle.vt_key.specs.declared.order.Rank.{Rank}
 use Rattle.vt_key.specs.declared.letter.Letter.{Letter}
 use Rattle.vt_key.proofs.OrderLemmas.{rank-irreflexive, rank_same-true}

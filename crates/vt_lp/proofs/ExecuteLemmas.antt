@@ -4,9 +4,10 @@ use Rattle.std.specs.List.{All, last_or}
 use Rattle.std.proofs.lemmas.List.{map-append}
 use Rattle.std.proofs.lemmas.List.Elements.{All-head, All-tail, All-cons, All-nil, All-append, All-weaker}
 use Rattle.vt_key.proofs.RisingLemmas.{second-false}
-use Rattle.vt_key.specs.Times.{Time, TimeBefore}
-use Rattle.vt_key.specs.Order.{RankBefore}
-use Rattle.vt_key.specs.Queues.{letter_rank, has_rank, holds_rank, IsRising}
+use Rattle.vt_key.specs.promise.Times.{Time, TimeBefore}
+use Rattle.vt_key.specs.inside.Order.{RankBefore}
+use Rattle.vt_key.specs.promise.Queues.{letter_rank, has_rank}
+use Rattle.vt_key.specs.inside.Queues.{holds_rank, IsRising}
 use Rattle.vt_key.specs.declared.limits.TheConstants.{MAX_COUNT}
 use Rattle.vt_key.specs.declared.fault.Fault.{Fault}
 use Rattle.vt_key.specs.declared.letter.Event.{Event}
@@ -17,25 +18,25 @@ use Rattle.vt_key.proofs.OrderLemmas.{rank-transitive, rank_before-true}
 use Rattle.vt_model.specs.declared.sending.Sent.{Sent}
 use Rattle.vt_model.specs.declared.rows.Record.{Record}
 use Rattle.vt_model.specs.declared.settings.Config.{Config}
-use Rattle.vt_model.specs.Handler.{Handlers}
+use Rattle.vt_model.specs.promise.Handler.{Handlers}
 use Rattle.vt_model.specs.declared.limits.TheConstants.{MAX_DRAWS}
-use Rattle.vt_model.specs.Process.{IsProcessStream}
-use Rattle.vt_stream.specs.Words.{Stream}
-use Rattle.vt_model.specs.Simulation.{Simulation, Triple, Fired, simulation_of}
-use Rattle.vt_model.specs.Settings.{end_of}
-use Rattle.vt_steps.specs.Letters.{unstamped, stamped, signed}
-use Rattle.vt_steps.specs.World.{Entry, LogicalProcess, triple_after, entry_rank}
-use Rattle.vt_steps.specs.ProcessSteps.{may_follow, effect_of_execute, execute_least, execute_process}
-use Rattle.vt_steps.specs.StandsFor.{entry_of, IsRemembered, LeadTo}
+use Rattle.vt_model.specs.inside.Process.{IsProcessStream}
+use Rattle.vt_stream.specs.inside.Words.{Stream}
+use Rattle.vt_model.specs.promise.Simulation.{Simulation, Triple, Fired, simulation_of}
+use Rattle.vt_model.specs.promise.Settings.{end_of}
+use Rattle.vt_steps.specs.promise.Letters.{unstamped, stamped, signed}
+use Rattle.vt_steps.specs.promise.World.{Entry, LogicalProcess, triple_after, entry_rank}
+use Rattle.vt_steps.specs.promise.ProcessSteps.{may_follow, effect_of_execute, execute_least, execute_process}
+use Rattle.vt_steps.specs.inside.StandsFor.{entry_of, IsRemembered, LeadTo}
 use Rattle.vt_steps.proofs.steps.MemoryLemmas.{is_where, goes_on, after-append}
 use Rattle.vt_steps.proofs.letters.Stamped.{length-stamped}
 use Rattle.vt_past.specs.declared.event.PastEvent.{PastEvent}
 use Rattle.vt_past.specs.declared.event.UndoEntry.{UndoEntry}
-use Rattle.vt_lp.specs.Held.{HeldProcess, StandsFor, process_memory, remembered, way_back, IsOwnLetter, IsOwnEvent, IsReady, IsRisingPast, IsNotPending, IsProcessInside}
-use Rattle.vt_lp.specs.Guards.{IsDone, IsExecuteRefusal, may_come_after}
-use Rattle.vt_past.specs.Events.{past_event}
-use Rattle.vt_lp.specs.Past.{ready_event, IsAdvanceRefusal}
-use Rattle.vt_lp.specs.Used.{count_sends_by, count_sends}
+use Rattle.vt_lp.specs.inside.Held.{HeldProcess, StandsFor, process_memory, remembered, way_back, IsOwnLetter, IsOwnEvent, IsReady, IsRisingPast, IsNotPending, IsProcessInside}
+use Rattle.vt_lp.specs.inside.Guards.{IsDone, IsExecuteRefusal, may_come_after}
+use Rattle.vt_past.specs.inside.Events.{past_event}
+use Rattle.vt_lp.specs.inside.Past.{ready_event, IsAdvanceRefusal}
+use Rattle.vt_lp.specs.inside.Used.{count_sends_by, count_sends}
 use Rattle.vt_lp.proofs.Ends.{none-after}
 use Rattle.vt_lp.proofs.Advancing.{events-signed}
 

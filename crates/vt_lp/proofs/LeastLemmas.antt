@@ -2,16 +2,16 @@
 use Rattle.std.proofs.Common.{◌≡◌, ◌++◌, true, false, not, if◌then◌else◌, List, [], ◌∷◌, Option, Some, slice_get, refl, sym, subst, ap, arith}
 use Rattle.std.specs.Prelude.{ℕ, All, IfSome, IfNone}
 use Rattle.std.proofs.lemmas.List.Elements.{All-head}
-use Rattle.vt_key.specs.Times.{Time}
-use Rattle.vt_key.specs.Order.{rank_before}
+use Rattle.vt_key.specs.promise.Times.{Time}
+use Rattle.vt_key.specs.promise.Order.{rank_before}
 use Rattle.vt_key.specs.declared.order.Rank.{Rank}
 use Rattle.vt_key.specs.declared.letter.Letter.{Letter}
 use Rattle.vt_key.specs.declared.letter.Sign.{Sign}
-use Rattle.vt_steps.specs.Letters.{letter_time, least_time}
+use Rattle.vt_steps.specs.promise.Letters.{letter_time, least_time}
 use Rattle.vt_steps.proofs.letters.RankTimes.{rank-time, not-after-time}
-use Rattle.vt_key.specs.Queues.{IsRising}
-use Rattle.vt_lp.specs.Held.{IsOwnLetter}
-use Rattle.vt_lp.specs.Guards.{lesser_rank}
+use Rattle.vt_key.specs.inside.Queues.{IsRising}
+use Rattle.vt_lp.specs.inside.Held.{IsOwnLetter}
+use Rattle.vt_lp.specs.inside.Guards.{lesser_rank}
 use Rattle.vt_lp.proofs.RisingLemmas.{least_time-rising, least_time-both}
 
 module _ {P : Type 0} (p : ℕ) (end : Time) where

@@ -5,13 +5,14 @@ use Rattle.std.proofs.lemmas.List.Folds.{find-append}
 use Rattle.std.specs.List.{list_any}
 use Rattle.std.specs.Option.{option_or}
 use Rattle.std.proofs.lemmas.Option.{none-some}
-use Rattle.vt_key.specs.Order.{RankBefore, rank_before, rank_same}
+use Rattle.vt_key.specs.promise.Order.{rank_before, rank_same}
+use Rattle.vt_key.specs.inside.Order.{RankBefore}
 use Rattle.vt_key.specs.declared.order.Rank.{Rank}
 use Rattle.vt_key.proofs.OrderLemmas.{rank-transitive, rank-total, rank_before-true, before-rank_before}
 use Rattle.vt_lp.proofs.Ends.{after-differs}
 use Rattle.vt_pending.proofs.Holding.{before-differs}
 use Rattle.vt_past.specs.declared.event.PastEvent.{PastEvent}
-use Rattle.vt_lp.specs.Held.{AllAfter, IsRisingPast}
+use Rattle.vt_lp.specs.inside.Held.{AllAfter, IsRisingPast}
 
 -- the last that passes, of one more in front
 find-back-more : {X : Type 0} (test : X → Bool) (x : X) (xs : List X) → find test (reverse (x ∷ xs)) ≡ option_or (find test (reverse xs)) (if test x then Some x else None)

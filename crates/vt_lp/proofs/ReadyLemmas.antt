@@ -1,16 +1,17 @@
 -- What the rank of the last past event tells: whether it has to be undone, and which past events a rank can have.
 use Rattle.std.proofs.Common.{◌≡◌, true, false, ◌||◌, List, [], ◌∷◌, Option, Some, None, refl, ◌∙◌, ap}
 use Rattle.std.specs.List.{last_or, list_any}
-use Rattle.vt_steps.specs.ProcessSteps.{must_undo}
-use Rattle.vt_key.specs.Order.{RankBefore, rank_same}
+use Rattle.vt_steps.specs.promise.ProcessSteps.{must_undo}
+use Rattle.vt_key.specs.promise.Order.{rank_same}
+use Rattle.vt_key.specs.inside.Order.{RankBefore}
 use Rattle.vt_key.specs.declared.order.Rank.{Rank}
 use Rattle.vt_key.specs.declared.letter.Letter.{Letter}
 use Rattle.vt_key.proofs.OrderLemmas.{rank-transitive, rank_before-true}
 use Rattle.vt_past.specs.declared.event.PastEvent.{PastEvent}
-use Rattle.vt_past.specs.Events.{rank_of_last, last_rank}
-use Rattle.vt_lp.specs.Guards.{may_come_after}
-use Rattle.vt_lp.specs.Held.{IsRisingPast}
-use Rattle.vt_lp.specs.Past.{must_undo_last}
+use Rattle.vt_past.specs.inside.Events.{rank_of_last, last_rank}
+use Rattle.vt_lp.specs.inside.Guards.{may_come_after}
+use Rattle.vt_lp.specs.inside.Held.{IsRisingPast}
+use Rattle.vt_lp.specs.inside.Past.{must_undo_last}
 use Rattle.vt_pending.proofs.Holding.{before-differs}
 
 module _ {P K : Type 0} where

@@ -5,28 +5,28 @@ use Rattle.std.specs.List.{enumerate_from, prefix_len}
 use Rattle.std.proofs.lemmas.List.{map-append, take_more, length-take-le}
 use Rattle.std.proofs.lemmas.List.Elements.{All-tail}
 use Rattle.std.proofs.lemmas.Bool.Decides.{nat_tests}
-use Rattle.vt_key.specs.Times.{Time}
-use Rattle.vt_key.specs.Keys.{Key}
+use Rattle.vt_key.specs.promise.Times.{Time}
+use Rattle.vt_key.specs.promise.Keys.{Key}
 use Rattle.vt_key.specs.declared.order.Rank.{Rank}
 use Rattle.vt_key.specs.declared.letter.Letter.{Letter}
 use Rattle.vt_key.proofs.ListLemmas.{rising-right}
-use Rattle.vt_stream.specs.Words.{Stream}
+use Rattle.vt_stream.specs.inside.Words.{Stream}
 use Rattle.vt_model.specs.declared.rows.Record.{Record}
 use Rattle.vt_model.specs.declared.rows.Row.{Row}
 use Rattle.vt_model.specs.declared.settings.Config.{Config}
-use Rattle.vt_model.specs.Handler.{Handlers}
-use Rattle.vt_model.specs.Simulation.{Simulation, Triple, simulation_of, rows_of}
+use Rattle.vt_model.specs.promise.Handler.{Handlers}
+use Rattle.vt_model.specs.promise.Simulation.{Simulation, Triple, simulation_of, rows_of}
 use Rattle.vt_model.proofs.SendLemmas.{enumerate_from-append}
-use Rattle.vt_steps.specs.Rows.{rows_from}
-use Rattle.vt_steps.specs.World.{Entry, LogicalProcess, entry_events, triple_after}
-use Rattle.vt_steps.specs.PartSteps.{is_below, ripe, ripe_rows, process_after_commit}
-use Rattle.vt_steps.specs.StandsFor.{entry_of, fired_at, LeadTo}
+use Rattle.vt_steps.specs.promise.Rows.{rows_from}
+use Rattle.vt_steps.specs.promise.World.{Entry, LogicalProcess, entry_events, triple_after}
+use Rattle.vt_steps.specs.promise.PartSteps.{is_below, ripe, ripe_rows, process_after_commit}
+use Rattle.vt_steps.specs.inside.StandsFor.{entry_of, fired_at, LeadTo}
 use Rattle.vt_steps.proofs.letters.RankTimes.{rank-order-time}
 use Rattle.vt_steps.proofs.steps.MemoryLemmas.{forgets}
 use Rattle.vt_past.specs.declared.event.PastEvent.{PastEvent}
-use Rattle.vt_lp.specs.Held.{HeldProcess, StandsFor, remembered, process_memory, IsNotPending, IsOwnEvent, IsRisingPast, IsProcessInside}
-use Rattle.vt_past.specs.Events.{last_rank}
-use Rattle.vt_lp.specs.Ripe.{is_ripe, begins_ripe, unripe_events, rows_of_ripe}
+use Rattle.vt_lp.specs.inside.Held.{HeldProcess, StandsFor, remembered, process_memory, IsNotPending, IsOwnEvent, IsRisingPast, IsProcessInside}
+use Rattle.vt_past.specs.inside.Events.{last_rank}
+use Rattle.vt_lp.specs.inside.Ripe.{is_ripe, begins_ripe, unripe_events, rows_of_ripe}
 
 -- the rows of records and one more
 pub rows_of_more : (key : Key) (records : List Record) (i : ℕ) (d : Record) → i < length records →

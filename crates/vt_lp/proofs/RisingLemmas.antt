@@ -2,14 +2,15 @@
 use Rattle.std.proofs.Common.{◌≡◌, ◌||◌, inl, inr, ◌++◌, Bool, true, false, not, List, [], ◌∷◌, Some, None, slice_get, refl, sym, ◌∙◌, ap, arith}
 use Rattle.std.specs.List.{list_any}
 use Rattle.std.proofs.lemmas.Bool.{cases_Bool}
-use Rattle.vt_key.specs.Times.{Time, TimeAtMost, earlier}
-use Rattle.vt_key.specs.Order.{RankBefore, rank_before}
+use Rattle.vt_key.specs.promise.Times.{Time, TimeAtMost, earlier}
+use Rattle.vt_key.specs.promise.Order.{rank_before}
+use Rattle.vt_key.specs.inside.Order.{RankBefore}
 use Rattle.vt_key.specs.declared.order.Rank.{Rank}
 use Rattle.vt_key.specs.declared.letter.Letter.{Letter}
 use Rattle.vt_key.proofs.OrderLemmas.{rank-transitive, rank_before-true, before-rank_before}
-use Rattle.vt_steps.specs.Letters.{letter_time, least_time}
+use Rattle.vt_steps.specs.promise.Letters.{letter_time, least_time}
 use Rattle.vt_steps.proofs.letters.RankTimes.{rank-order-time}
-use Rattle.vt_key.specs.Queues.{AllAfter, IsRising}
+use Rattle.vt_key.specs.inside.Queues.{AllAfter, IsRising}
 
 module _ {P : Type 0} where
   -- where all letters are after a rank, none is before what that rank is not before

@@ -3,15 +3,15 @@ use Rattle.std.proofs.Common.{◌≡◌, ◌∙◌, ◌||◌, true, false, List,
 use Rattle.std.specs.List.{last_or}
 use Rattle.vt_key.specs.declared.letter.Letter.{Letter}
 use Rattle.vt_key.proofs.OrderLemmas.{rank_before-true}
-use Rattle.vt_model.specs.Handler.{Handlers}
-use Rattle.vt_steps.specs.World.{LogicalProcess}
-use Rattle.vt_steps.specs.ProcessSteps.{can_annihilate}
+use Rattle.vt_model.specs.promise.Handler.{Handlers}
+use Rattle.vt_steps.specs.promise.World.{LogicalProcess}
+use Rattle.vt_steps.specs.promise.ProcessSteps.{can_annihilate}
 use Rattle.vt_past.specs.declared.event.PastEvent.{PastEvent}
-use Rattle.vt_key.specs.Queues.{IsRising}
+use Rattle.vt_key.specs.inside.Queues.{IsRising}
 use Rattle.vt_pending.proofs.Placing.{not-back}
-use Rattle.vt_lp.specs.Held.{HeldProcess, StandsFor}
-use Rattle.vt_lp.specs.Guards.{may_come_after, HasNothingToSettle}
-use Rattle.vt_lp.specs.Past.{must_undo_last}
+use Rattle.vt_lp.specs.inside.Held.{HeldProcess, StandsFor}
+use Rattle.vt_lp.specs.inside.Guards.{may_come_after, HasNothingToSettle}
+use Rattle.vt_lp.specs.inside.Past.{must_undo_last}
 use Rattle.vt_lp.proofs.RisingLemmas.{any-before-least}
 use Rattle.vt_lp.proofs.UndoLemmas.{undo-none}
 use Rattle.vt_lp.proofs.CancelLemmas.{none-annihilate, cancel-none}

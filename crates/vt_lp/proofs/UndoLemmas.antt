@@ -4,27 +4,27 @@ use Rattle.std.specs.List.{All, last_or}
 use Rattle.std.specs.Option.{option_and_then}
 use Rattle.std.proofs.lemmas.List.{map-append, length_push}
 use Rattle.std.proofs.lemmas.List.Elements.{All-from_recursion, recursion_from_All, All-head, All-tail, All-cons, All-nil}
-use Rattle.vt_key.specs.Order.{rank_before, rank_same}
-use Rattle.vt_key.specs.Queues.{letter_rank, insert_letter}
+use Rattle.vt_key.specs.promise.Order.{rank_before, rank_same}
+use Rattle.vt_key.specs.promise.Queues.{letter_rank, insert_letter}
 use Rattle.vt_key.specs.declared.limits.TheConstants.{MAX_COUNT}
 use Rattle.vt_key.specs.declared.letter.Letter.{Letter}
 use Rattle.vt_key.specs.declared.letter.Sign.TheVariants.{Plus, Minus}
 use Rattle.vt_key.proofs.ListLemmas.{every-left, every-right, every-both, every-all, rising-left, rising-across}
-use Rattle.vt_stream.specs.Words.{Stream}
+use Rattle.vt_stream.specs.inside.Words.{Stream}
 use Rattle.vt_model.specs.declared.settings.Config.{Config}
-use Rattle.vt_model.specs.Handler.{Handlers}
-use Rattle.vt_model.specs.Process.{IsProcessStream}
-use Rattle.vt_model.specs.Simulation.{Simulation, Triple, simulation_of}
-use Rattle.vt_model.specs.Settings.{end_of}
-use Rattle.vt_steps.specs.Letters.{signed}
-use Rattle.vt_steps.specs.World.{Entry, LogicalProcess, triple_after}
-use Rattle.vt_steps.specs.ProcessSteps.{must_undo, effect_of_undo, undo_process, ProcessEffect}
-use Rattle.vt_steps.specs.StandsFor.{entry_of, LeadTo}
+use Rattle.vt_model.specs.promise.Handler.{Handlers}
+use Rattle.vt_model.specs.inside.Process.{IsProcessStream}
+use Rattle.vt_model.specs.promise.Simulation.{Simulation, Triple, simulation_of}
+use Rattle.vt_model.specs.promise.Settings.{end_of}
+use Rattle.vt_steps.specs.promise.Letters.{signed}
+use Rattle.vt_steps.specs.promise.World.{Entry, LogicalProcess, triple_after}
+use Rattle.vt_steps.specs.promise.ProcessSteps.{must_undo, effect_of_undo, undo_process, ProcessEffect}
+use Rattle.vt_steps.specs.inside.StandsFor.{entry_of, LeadTo}
 use Rattle.vt_steps.proofs.steps.MemoryLemmas.{goes_back}
 use Rattle.vt_past.specs.declared.event.PastEvent.{PastEvent}
-use Rattle.vt_lp.specs.Held.{HeldProcess, StandsFor, process_memory, remembered, way_back, IsOwnLetter, IsOwnEvent, IsReady, IsWithinRun, IsRisingPast, IsNotPending, IsProcessInside}
-use Rattle.vt_lp.specs.Guards.{IsDone}
-use Rattle.vt_lp.specs.Past.{must_undo_last}
+use Rattle.vt_lp.specs.inside.Held.{HeldProcess, StandsFor, process_memory, remembered, way_back, IsOwnLetter, IsOwnEvent, IsReady, IsWithinRun, IsRisingPast, IsNotPending, IsProcessInside}
+use Rattle.vt_lp.specs.inside.Guards.{IsDone}
+use Rattle.vt_lp.specs.inside.Past.{must_undo_last}
 use Rattle.vt_lp.proofs.AcceptLemmas.{All-insert, holds-insert}
 use Rattle.vt_lp.proofs.Ends.{after-differs}
 

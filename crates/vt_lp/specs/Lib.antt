@@ -1,6 +1,2 @@
-pub mod Held
-pub mod Guards
-pub mod Ripe
-pub mod Past
-pub mod Used
-pub mod Steps
+pub mod promise
+pub mod inside

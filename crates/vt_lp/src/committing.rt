@@ -4,13 +4,13 @@ ghost use Rattle.std.specs.Prelude.{◌≡◌, ◌+◌, ◌++◌, List, length, 
 ghost use Rattle.std.specs.List.{sum_by};
 ghost use Rattle.vt_key.specs.declared.fault.Fault.TheVariants.{Memory};
 ghost use Rattle.vt_model.specs.declared.rows.Row.{Row};
-ghost use Rattle.vt_model.specs.Handler.{Handlers};
-ghost use Rattle.vt_model.specs.Simulation.{simulation_of, rows_of};
-ghost use Rattle.vt_steps.specs.World.{LogicalProcess};
-ghost use Rattle.vt_steps.specs.PartSteps.{ripe_rows, process_after_commit};
-ghost use Rattle.vt_past.specs.Kept.{held_by};
-ghost use Rattle.vt_lp.specs.Held.{StandsFor, IsRisingPast, executed_events};
-ghost use Rattle.vt_lp.specs.Ripe.{begins_ripe, unripe_events, rows_of_ripe};
+ghost use Rattle.vt_model.specs.promise.Handler.{Handlers};
+ghost use Rattle.vt_model.specs.promise.Simulation.{simulation_of, rows_of};
+ghost use Rattle.vt_steps.specs.promise.World.{LogicalProcess};
+ghost use Rattle.vt_steps.specs.promise.PartSteps.{ripe_rows, process_after_commit};
+ghost use Rattle.vt_past.specs.inside.Kept.{held_by};
+ghost use Rattle.vt_lp.specs.inside.Held.{StandsFor, IsRisingPast, executed_events};
+ghost use Rattle.vt_lp.specs.inside.Ripe.{begins_ripe, unripe_events, rows_of_ripe};
 
 use crate::Lp;
 use std::alloc::Global;

@@ -1,25 +1,25 @@
 //! How a process with rollback executes its least pending event.
 
 ghost use Rattle.std.specs.Prelude.{◌≡◌, ◌+◌, ◌%◌, ◌^◌, ◌<◌, ◌≤◌, ◌⊎◌, [], ◌∷◌, ◌++◌, length, map, All, None, Err, IfOk, IfErr};
-ghost use Rattle.vt_key.specs.Times.{TimeBefore};
+ghost use Rattle.vt_key.specs.promise.Times.{TimeBefore};
 ghost use Rattle.vt_key.specs.declared.fault.Fault.TheVariants.{Memory, NotLawful, Exhausted};
 ghost use Rattle.vt_key.specs.declared.letter.Letter.{Letter};
 ghost use Rattle.vt_key.specs.declared.letter.Sign.TheVariants.{Plus, Minus};
 ghost use Rattle.vt_model.specs.declared.limits.TheConstants.{MAX_RECORDS};
-ghost use Rattle.vt_model.specs.Process.{triple_at, IsProcessStream};
-ghost use Rattle.vt_model.specs.Simulation.{simulation_of};
-ghost use Rattle.vt_model.specs.Settings.{end_of};
-ghost use Rattle.vt_key.specs.Queues.{IsRising};
-ghost use Rattle.vt_stream.specs.Words.{moved};
-ghost use Rattle.vt_steps.specs.Letters.{unstamped, stamped, signed};
-ghost use Rattle.vt_steps.specs.StandsFor.{IsRemembered};
-ghost use Rattle.vt_steps.specs.World.{LogicalProcess};
-ghost use Rattle.vt_lp.specs.Held.{StandsFor, AllWithinRun, IsReady, remembered};
-ghost use Rattle.vt_lp.specs.Steps.{execute_held, DoesAtProcess, RefusesExecution};
-ghost use Rattle.vt_past.specs.Events.{past_event};
-ghost use Rattle.vt_past.specs.Kept.{GaveEvent};
-ghost use Rattle.vt_lp.specs.Used.{count_sends, after_letters, IsLeft};
-ghost use Rattle.vt_lp.specs.Past.{ready_event, IsAdvanceRefusal};
+ghost use Rattle.vt_model.specs.inside.Process.{triple_at, IsProcessStream};
+ghost use Rattle.vt_model.specs.promise.Simulation.{simulation_of};
+ghost use Rattle.vt_model.specs.promise.Settings.{end_of};
+ghost use Rattle.vt_key.specs.inside.Queues.{IsRising};
+ghost use Rattle.vt_stream.specs.inside.Words.{moved};
+ghost use Rattle.vt_steps.specs.promise.Letters.{unstamped, stamped, signed};
+ghost use Rattle.vt_steps.specs.inside.StandsFor.{IsRemembered};
+ghost use Rattle.vt_steps.specs.promise.World.{LogicalProcess};
+ghost use Rattle.vt_lp.specs.inside.Held.{StandsFor, AllWithinRun, IsReady, remembered};
+ghost use Rattle.vt_lp.specs.inside.Steps.{execute_held, DoesAtProcess, RefusesExecution};
+ghost use Rattle.vt_past.specs.inside.Events.{past_event};
+ghost use Rattle.vt_past.specs.inside.Kept.{GaveEvent};
+ghost use Rattle.vt_lp.specs.inside.Used.{count_sends, after_letters, IsLeft};
+ghost use Rattle.vt_lp.specs.inside.Past.{ready_event, IsAdvanceRefusal};
 
 use crate::letters::ends_before;
 use crate::lp::Lp;

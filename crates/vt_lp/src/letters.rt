@@ -3,15 +3,15 @@
 ghost use Rattle.std.specs.Prelude.{◌≡◌, ◌+◌, suc, length, IfSome, IfNone, false, true, [], None, IfOk, IfErr};
 ghost use Rattle.vt_key.specs.declared.order.Stamp.{Stamp};
 ghost use Rattle.std.specs.List.{list_any, last_or};
-ghost use Rattle.vt_key.specs.Order.{rank_same};
-ghost use Rattle.vt_key.specs.Times.{TimeBefore};
+ghost use Rattle.vt_key.specs.promise.Order.{rank_same};
+ghost use Rattle.vt_key.specs.promise.Times.{TimeBefore};
 ghost use Rattle.vt_key.specs.declared.fault.Fault.TheVariants.{NotLawful};
-ghost use Rattle.vt_model.specs.Handler.{Handlers};
-ghost use Rattle.vt_model.specs.Settings.{end_of};
-ghost use Rattle.vt_steps.specs.ProcessSteps.{cancel_process, accept_process, can_annihilate};
-ghost use Rattle.vt_lp.specs.Held.{IsRisingPast};
-ghost use Rattle.vt_lp.specs.Steps.{DoesAtProcess, RefusesAtProcess};
-ghost use Rattle.vt_lp.specs.Guards.{holds_letter, would_lead, is_first, TellsSame, may_come_after};
+ghost use Rattle.vt_model.specs.promise.Handler.{Handlers};
+ghost use Rattle.vt_model.specs.promise.Settings.{end_of};
+ghost use Rattle.vt_steps.specs.promise.ProcessSteps.{cancel_process, accept_process, can_annihilate};
+ghost use Rattle.vt_lp.specs.inside.Held.{IsRisingPast};
+ghost use Rattle.vt_lp.specs.inside.Steps.{DoesAtProcess, RefusesAtProcess};
+ghost use Rattle.vt_lp.specs.inside.Guards.{holds_letter, would_lead, is_first, TellsSame, may_come_after};
 
 use crate::Lp;
 use vt_key::{Fault, Letter, Rank, Sign, Stamp};
@@ -180,7 +180,7 @@ struct NotAfter(Rank);
 
 impl<P: Copy, K: Copy> Predicate<PastEvent<P, K>> for NotAfter {
     ghost use Rattle.std.specs.Prelude.{not};
-    ghost use Rattle.vt_key.specs.Order.{rank_before};
+    ghost use Rattle.vt_key.specs.promise.Order.{rank_before};
 
     ghost passes = { λ t e. not (rank_before t.0 e.letter.event.rank) };
 

@@ -2,13 +2,13 @@
 
 ghost use Rattle.std.specs.Prelude.{◌≡◌, ◌++◌, ◌%◌, ◌^◌, ◌↔◌, [], length, slice_get, IsFalse, IfSome, IfNone};
 ghost use Rattle.std.specs.Option.{option_copied};
-ghost use Rattle.vt_steps.specs.Letters.{least_time};
-ghost use Rattle.vt_steps.specs.World.{LogicalProcess};
-ghost use Rattle.vt_key.specs.Queues.{IsRising};
-ghost use Rattle.vt_lp.specs.Held.{StandsFor, IsRisingPast};
-ghost use Rattle.vt_lp.specs.Guards.{ready_rank, lesser_rank, is_unsettled, HasNothingToSettle};
-ghost use Rattle.vt_model.specs.Handler.{Handlers};
-ghost use Rattle.vt_model.specs.Settings.{end_of};
+ghost use Rattle.vt_steps.specs.promise.Letters.{least_time};
+ghost use Rattle.vt_steps.specs.promise.World.{LogicalProcess};
+ghost use Rattle.vt_key.specs.inside.Queues.{IsRising};
+ghost use Rattle.vt_lp.specs.inside.Held.{StandsFor, IsRisingPast};
+ghost use Rattle.vt_lp.specs.inside.Guards.{ready_rank, lesser_rank, is_unsettled, HasNothingToSettle};
+ghost use Rattle.vt_model.specs.promise.Handler.{Handlers};
+ghost use Rattle.vt_model.specs.promise.Settings.{end_of};
 
 use crate::letters::ends_before;
 use std::marker::Model;
@@ -36,8 +36,8 @@ pub struct Lp<M: EventModel> {
 }
 
 impl<M: EventModel> Model for Lp<M> {
-    ghost use Rattle.vt_model.specs.Process.{triple_at};
-    ghost use Rattle.vt_lp.specs.Held.{HeldProcess, IsProcessInside};
+    ghost use Rattle.vt_model.specs.inside.Process.{triple_at};
+    ghost use Rattle.vt_lp.specs.inside.Held.{HeldProcess, IsProcessInside};
 
     ghost Value = { HeldProcess M.State M.Payload M.Kept };
 

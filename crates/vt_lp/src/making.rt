@@ -2,7 +2,7 @@
 
 ghost use Rattle.std.specs.Prelude.{◌≡◌, ◌+◌, ◌-◌, ◌≤◌, ◌↔◌, length, map, IsTrue, IfOk, IfErr};
 ghost use Rattle.vt_key.specs.declared.fault.Fault.TheVariants.{Memory};
-ghost use Rattle.vt_steps.specs.Letters.{unstamped, stamped, signed};
+ghost use Rattle.vt_steps.specs.promise.Letters.{unstamped, stamped, signed};
 
 use std::alloc::Global;
 use vt_key::{Event, Fault, Letter, MAX_COUNT, Rank, Sign, Stamp};

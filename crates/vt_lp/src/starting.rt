@@ -3,10 +3,10 @@
 ghost use Rattle.std.specs.Prelude.{◌≡◌, ◌+◌, ◌%◌, ◌<◌, ◌≤◌, ◌⊎◌, ◌++◌, length, map, IfOk, IfErr};
 ghost use Rattle.vt_key.specs.declared.fault.Fault.TheVariants.{Memory, NotLawful, Exhausted};
 ghost use Rattle.vt_key.specs.declared.letter.Sign.TheVariants.{Plus};
-ghost use Rattle.vt_model.specs.Process.{triple_at, IsProcessStream};
-ghost use Rattle.vt_model.specs.Simulation.{simulation_of};
-ghost use Rattle.vt_steps.specs.Letters.{stamped, signed};
-ghost use Rattle.vt_lp.specs.Held.{StandsFor, opening_process, AllWithinRun};
+ghost use Rattle.vt_model.specs.inside.Process.{triple_at, IsProcessStream};
+ghost use Rattle.vt_model.specs.promise.Simulation.{simulation_of};
+ghost use Rattle.vt_steps.specs.promise.Letters.{stamped, signed};
+ghost use Rattle.vt_lp.specs.inside.Held.{StandsFor, opening_process, AllWithinRun};
 
 use crate::lp::Lp;
 use crate::making::{is_counted, letters};

@@ -2,13 +2,13 @@
 
 ghost use Rattle.std.specs.Prelude.{◌≡◌, suc, true, false, not, None, length, IfOk, IfErr};
 ghost use Rattle.std.specs.List.{last_or, list_any};
-ghost use Rattle.vt_key.specs.Order.{rank_before};
+ghost use Rattle.vt_key.specs.promise.Order.{rank_before};
 ghost use Rattle.vt_key.specs.declared.fault.Fault.TheVariants.{NotLawful};
-ghost use Rattle.vt_past.specs.Kept.{TookEvent};
-ghost use Rattle.vt_steps.specs.ProcessSteps.{undo_process};
-ghost use Rattle.vt_lp.specs.Held.{AllWithinRun};
-ghost use Rattle.vt_lp.specs.Steps.{DoesAtProcess, RefusesAtProcess};
-ghost use Rattle.vt_lp.specs.Past.{must_undo_last};
+ghost use Rattle.vt_past.specs.inside.Kept.{TookEvent};
+ghost use Rattle.vt_steps.specs.promise.ProcessSteps.{undo_process};
+ghost use Rattle.vt_lp.specs.inside.Held.{AllWithinRun};
+ghost use Rattle.vt_lp.specs.inside.Steps.{DoesAtProcess, RefusesAtProcess};
+ghost use Rattle.vt_lp.specs.inside.Past.{must_undo_last};
 
 use crate::lp::Lp;
 use crate::making::unstamped;

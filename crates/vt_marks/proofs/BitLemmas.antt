@@ -5,7 +5,7 @@ use Rattle.std.proofs.lemmas.Bool.{cases_lt}
 use Rattle.std.proofs.lemmas.Bool.Decides.{nat_tests}
 use Rattle.std.proofs.lemmas.Nat.{and_le_l}
 use Rattle.std.proofs.lemmas.Nat.Bits.{bit_at_and, bit_at-zero, bit_at-lt, bit_at-trailing_zeros, ones_shl, bit_at_mask_inside, bit_at_mask_below}
-use Rattle.vt_marks.specs.Bits.{is_one, is_set, AreSums}
+use Rattle.vt_marks.specs.inside.Bits.{is_one, is_set, AreSums}
 
 -- a bit that is 0 isn't set, and one that is 1 is
 pub cleared : (word bit : ℕ) → bit_at word bit ≡ 0 → is_one word bit ≡ false

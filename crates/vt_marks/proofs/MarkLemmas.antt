@@ -6,7 +6,7 @@ use Rattle.std.proofs.lemmas.List.{same_lists, length-set, get_or-set_same, get_
 use Rattle.std.proofs.lemmas.List.FromFn.{length-map-range_with_len, get_or-map-range_with_len}
 use Rattle.std.proofs.lemmas.Nat.Bits.{bit_at-zero}
 use Rattle.std.proofs.lemmas.Option.{slice_get-get_or, slice_get_past, none-some, same_Some}
-use Rattle.vt_marks.specs.Bits.{is_set, marks_of, AreSums}
+use Rattle.vt_marks.specs.inside.Bits.{is_set, marks_of, AreSums}
 use Rattle.vt_marks.proofs.BitLemmas.{cleared, in-word, past-words}
 
 -- the mark of a place

@@ -1,7 +1,7 @@
 //! Bits of words, numbered from the lowest one of the first word.
 
 ghost use Rattle.std.specs.Prelude.{◌≡◌, ◌≢◌, ℕ, ◌*◌, ◌/◌, ◌<◌, ◌≤◌, ◌^◌, length, slice_set, true, false, IfSome, IfNone};
-ghost use Rattle.vt_marks.specs.Bits.{is_one, is_set, AreSums};
+ghost use Rattle.vt_marks.specs.inside.Bits.{is_one, is_set, AreSums};
 
 /// The word with bit `bit`, which is below 64, set or cleared.
 fn with_bit(word: u64, bit: u32, value: bool) -> u64

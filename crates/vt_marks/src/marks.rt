@@ -20,7 +20,7 @@ pub struct Marks {
 
 impl Model for Marks {
     ghost use Rattle.std.specs.Prelude.{List, Bool};
-    ghost use Rattle.vt_marks.specs.Bits.{marks_of, AreKept};
+    ghost use Rattle.vt_marks.specs.inside.Bits.{marks_of, AreKept};
 
     ghost Value = { List Bool };
 

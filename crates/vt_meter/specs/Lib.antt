@@ -1,1 +1,1 @@
-pub mod Writers
+pub mod inside

@@ -1,7 +1,7 @@
 //! The terminal of a program, or none.
 
 ghost use Rattle.std.specs.Prelude.{◌≡◌};
-ghost use Rattle.vt_meter.specs.Writers.{terminal_errors};
+ghost use Rattle.vt_meter.specs.inside.Writers.{terminal_errors};
 
 use crate::clearing::Clearing;
 use crate::meter::Meter;

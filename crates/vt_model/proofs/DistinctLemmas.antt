@@ -3,15 +3,16 @@ use Rattle.std.proofs.Common.{◌≡◌, ℕ, zero, suc, ◌+◌, ◌<◌, ◌�
 use Rattle.std.specs.List.{range_with_len}
 use Rattle.std.proofs.lemmas.List.Sums.{sum_by-cons}
 use Rattle.std.proofs.lemmas.Bool.{cases_Bool}
-use Rattle.vt_key.specs.Keys.{Key}
-use Rattle.vt_key.specs.Order.{key_same}
-use Rattle.vt_key.specs.Lists.{Among, IsRisingBy}
+use Rattle.vt_key.specs.promise.Keys.{Key}
+use Rattle.vt_key.specs.promise.Order.{key_same}
+use Rattle.vt_key.specs.promise.Lists.{Among, IsRisingBy}
 use Rattle.vt_key.proofs.OrderLemmas.{key_same-true, same-key_same}
 use Rattle.vt_key.proofs.ListLemmas.{every-all, every-among, filter-among, rising-append, rising-filter}
 use Rattle.vt_model.specs.declared.sending.Sent.{Sent}
-use Rattle.vt_model.specs.Simulation.{Simulation, after}
-use Rattle.vt_model.specs.Sequential.{RunState, events_of, fired_after, with_event, after_steps}
-use Rattle.vt_model.specs.Histories.{AreDistinct, AreNumbered, sends_of, IsLawful}
+use Rattle.vt_model.specs.promise.Simulation.{Simulation, after}
+use Rattle.vt_model.specs.promise.Sequential.{RunState, events_of, fired_after, with_event, after_steps}
+use Rattle.vt_model.specs.promise.Histories.{AreNumbered, IsLawful}
+use Rattle.vt_model.specs.inside.Histories.{AreDistinct, sends_of}
 use Rattle.vt_model.proofs.RunLemmas.{each_step, filter-all, filter-yes, filter-no, numbered-among, numbered-all, known_sent, lists_of, least-found, IsReached, reached, among-below, flat-next}
 
 differs : (a b : Key) → (a ≡ b → ⊥) → key_same a b ≡ false

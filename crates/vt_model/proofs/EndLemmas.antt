@@ -6,17 +6,18 @@ use Rattle.std.proofs.lemmas.Bool.{eqb-true, eq-eqb, cases_Bool}
 use Rattle.std.proofs.lemmas.Bool.Decides.{nat_tests}
 use Rattle.std.proofs.lemmas.List.Sums.{sum_by-cons, sum_by-append}
 use Rattle.std.proofs.Math.Nat.{pow-suc, one-le-pow, pow-le-pow_right, mul-le-mul_right}
-use Rattle.vt_key.specs.Order.{KeyBefore, key_before, key_same}
+use Rattle.vt_key.specs.promise.Order.{KeyBefore, key_before, key_same}
 use Rattle.vt_key.proofs.OrderLemmas.{key-irreflexive, key-transitive, key_before-true, before-key_before, same-key_same}
 use Rattle.vt_key.proofs.ListLemmas.{among-filter, filter-among, rising-filter}
-use Rattle.vt_key.specs.Times.{time_before, time_left}
-use Rattle.vt_key.specs.Lists.{Among, IsRisingBy}
+use Rattle.vt_key.specs.promise.Times.{time_before, time_left}
+use Rattle.vt_key.specs.promise.Lists.{Among, IsRisingBy}
 use Rattle.vt_model.specs.declared.limits.TheConstants.{MAX_SENDS}
 use Rattle.vt_model.specs.declared.sending.Sent.{Sent}
-use Rattle.vt_model.specs.Simulation.{Simulation, after}
-use Rattle.vt_model.specs.Sequential.{RunState, events_before, events_of, least_event, fired_after, opening, with_event, step, after_steps, weight, whole_run, rows_after, seq_events}
-use Rattle.vt_model.specs.Histories.{IsRising, IsHistory, IsLawful}
-use Rattle.vt_model.specs.Rows.{RowBefore}
+use Rattle.vt_model.specs.promise.Simulation.{Simulation, after}
+use Rattle.vt_model.specs.promise.Sequential.{RunState, events_before, events_of, least_event, fired_after, opening, with_event, step, after_steps, weight, whole_run, rows_after, seq_events}
+use Rattle.vt_model.specs.promise.Histories.{IsLawful}
+use Rattle.vt_model.specs.inside.Histories.{IsRising, IsHistory}
+use Rattle.vt_model.specs.promise.Rows.{RowBefore}
 use Rattle.vt_model.proofs.HistoryLemmas.{one_history}
 use Rattle.vt_model.proofs.RowLemmas.{rows_rise}
 use Rattle.vt_model.proofs.RunLemmas.{filter-all, filter-yes, filter-no, find-none, least-found, known_sent, lists_of, IsReached, reached, fresh-later}

@@ -2,10 +2,12 @@
 use Rattle.std.proofs.Common.{◌≡◌, ℕ, ◌+◌, ◌%◌, ◌^◌, ◌≤◌, [], ◌∙◌, ap, length, arith}
 use Rattle.vt_model.specs.declared.limits.TheConstants.{MAX_DRAWS}
 use Rattle.vt_model.specs.declared.sending.Sent.{Sent}
-use Rattle.vt_stream.specs.Words.{Stream, seed_key, word, word_of, moved}
-use Rattle.vt_model.specs.Sends.{Outgoing, with_requests}
-use Rattle.vt_model.specs.Handler.{StartResult, ForwardResult}
-use Rattle.vt_model.specs.Simulation.{Triple, Fired, words_at, rows_of, start_of, fire_of, IsFiring}
+use Rattle.vt_stream.specs.promise.Words.{seed_key, word}
+use Rattle.vt_stream.specs.inside.Words.{Stream, word_of, moved}
+use Rattle.vt_model.specs.inside.Sends.{Outgoing, with_requests}
+use Rattle.vt_model.specs.promise.Handler.{StartResult, ForwardResult}
+use Rattle.vt_model.specs.promise.Simulation.{Triple, Fired, words_at, rows_of, start_of, fire_of}
+use Rattle.vt_model.specs.inside.Simulation.{IsFiring}
 
 -- the words of a stream are those of its seed, process and place
 pub word_of-words_at : (w : Stream) (seed p place : ℕ) → w.key ≡ seed_key seed → w.process ≡ p → w.place ≡ place → word_of w ≡ words_at seed p place

@@ -1,16 +1,17 @@
 -- There is one history: two of them have the same events below the time.
 use Rattle.std.proofs.Common.{◌≡◌, ℕ, zero, suc, ◌<◌, ◌≤◌, inl, inr, List, [], ◌∷◌, Bool, true, false, nat_lt, if◌then◌else◌, refl, sym, subst, ap, ◌∙◌, arith}
 use Rattle.std.proofs.lemmas.Bool.{lt-ltb, le-ltb, ltb-true, cases_lt}
-use Rattle.vt_key.specs.Keys.{Key}
-use Rattle.vt_key.specs.Order.{KeyBefore}
-use Rattle.vt_key.specs.Times.{time_before}
-use Rattle.vt_key.specs.Lists.{Among}
+use Rattle.vt_key.specs.promise.Keys.{Key}
+use Rattle.vt_key.specs.promise.Order.{KeyBefore}
+use Rattle.vt_key.specs.promise.Times.{time_before}
+use Rattle.vt_key.specs.promise.Lists.{Among}
 use Rattle.vt_key.proofs.OrderLemmas.{key-irreflexive, key-asymmetric}
 use Rattle.vt_key.proofs.ListLemmas.{among-left, among-right, among-append, among-filter, filter-among, every-among, rising-filter}
 use Rattle.vt_model.specs.declared.sending.Sent.{Sent}
-use Rattle.vt_model.specs.Simulation.{Simulation, Triple}
-use Rattle.vt_model.specs.Sequential.{events_before}
-use Rattle.vt_model.specs.Histories.{AllAfter, IsRising, sends_from, sends_of, IsHistory, IsLawful}
+use Rattle.vt_model.specs.promise.Simulation.{Simulation, Triple}
+use Rattle.vt_model.specs.promise.Sequential.{events_before}
+use Rattle.vt_model.specs.promise.Histories.{IsLawful}
+use Rattle.vt_model.specs.inside.Histories.{AllAfter, IsRising, sends_from, sends_of, IsHistory}
 
 -- what comes after a late key is late
 late_key : (a b : Key) (t : ℕ) → KeyBefore a b → t ≤ a.time → t ≤ b.time

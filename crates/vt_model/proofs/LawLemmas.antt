@@ -3,19 +3,20 @@ use Rattle.std.proofs.Common.{◌≡◌, ℕ, suc, ◌+◌, ◌<◌, ◌≤◌, 
 use Rattle.std.specs.List.{All, enumerate_from}
 use Rattle.std.proofs.lemmas.List.Elements.{All-head, All-tail}
 use Rattle.std.proofs.lemmas.Bool.{lt-ltb, le-ltb, cases_lt}
-use Rattle.vt_key.specs.Lists.{Among}
+use Rattle.vt_key.specs.promise.Lists.{Among}
 use Rattle.vt_model.specs.declared.sending.Sent.{Sent}
 use Rattle.vt_model.specs.declared.settings.Config.{Config}
-use Rattle.vt_stream.specs.Words.{seed_key}
-use Rattle.vt_model.specs.Sends.{SendRequest, sent_event, sent_events, receive_time}
-use Rattle.vt_model.specs.Handler.{Handlers, IsSendable, AreWords}
-use Rattle.vt_model.specs.Within.{IsStartWithin, IsEventWithin}
-use Rattle.vt_model.specs.Simulation.{Triple, words_at, start_of, fire_of, simulation_of, after}
+use Rattle.vt_stream.specs.promise.Words.{seed_key}
+use Rattle.vt_model.specs.promise.Sends.{SendRequest, sent_event, sent_events, receive_time}
+use Rattle.vt_model.specs.promise.Handler.{Handlers}
+use Rattle.vt_model.specs.inside.Handler.{IsSendable, AreWords}
+use Rattle.vt_model.specs.inside.Within.{IsStartWithin, IsEventWithin}
+use Rattle.vt_model.specs.promise.Simulation.{Triple, words_at, start_of, fire_of, simulation_of, after}
 use Rattle.vt_model.proofs.RunLemmas.{after_from}
-use Rattle.vt_model.specs.Histories.{AreNumbered, IsLawful}
+use Rattle.vt_model.specs.promise.Histories.{AreNumbered, IsLawful}
 use Rattle.vt_stream.proofs.WordLemmas.{word_below}
 use Rattle.vt_model.proofs.RowLemmas.{has_rows}
-use Rattle.vt_model.specs.Settings.{end_of}
+use Rattle.vt_model.specs.promise.Settings.{end_of}
 
 pub are_words : (seed p place : ℕ) → AreWords (words_at seed p place)
 are_words seed p place = λ i. word_below (seed_key seed) p (place + i)

@@ -1,7 +1,8 @@
 -- How what a handler asks for adds up.
 use Rattle.std.proofs.Common.{◌≡◌, ℕ, ◌+◌, ◌∙◌, List, [], ◌∷◌, ◌++◌, length, ap, add-zero, append-nil, length-append}
 use Rattle.std.proofs.lemmas.List.{length-map}
-use Rattle.vt_model.specs.Sends.{SendRequest, RecordRequest, Outgoing, sent_events, requested_records, with_requests}
+use Rattle.vt_model.specs.promise.Sends.{SendRequest, RecordRequest, sent_events, requested_records}
+use Rattle.vt_model.specs.inside.Sends.{Outgoing, with_requests}
 use Rattle.vt_model.proofs.SendLemmas.{with_requests-append}
 
 -- a record and then a send

@@ -3,20 +3,21 @@ use Rattle.std.proofs.Common.{◌≡◌, ℕ, suc, ◌+◌, ◌<◌, inl, inr, L
 use Rattle.std.specs.List.{enumerate_from, AllByRecursion}
 use Rattle.std.proofs.lemmas.Bool.{lt-ltb}
 use Rattle.vt_key.proofs.ListLemmas.{every-append}
-use Rattle.vt_key.specs.Keys.{Key}
-use Rattle.vt_key.specs.Order.{KeyBefore}
-use Rattle.vt_key.specs.Times.{ticks_of, priority_of}
-use Rattle.vt_key.specs.Lists.{Among, IsRisingBy}
+use Rattle.vt_key.specs.promise.Keys.{Key}
+use Rattle.vt_key.specs.promise.Order.{KeyBefore}
+use Rattle.vt_key.specs.promise.Times.{ticks_of, priority_of}
+use Rattle.vt_key.specs.promise.Lists.{Among, IsRisingBy}
 use Rattle.vt_model.specs.declared.rows.Record.{Record}
 use Rattle.vt_model.specs.declared.rows.Row.{Row}
 use Rattle.vt_model.specs.declared.sending.Sent.{Sent}
 use Rattle.vt_model.specs.declared.settings.Config.{Config}
-use Rattle.vt_model.specs.Sends.{RecordRequest, requested_records}
-use Rattle.vt_model.specs.Handler.{Handlers}
-use Rattle.vt_model.specs.Simulation.{Simulation, Triple, rows_of, fire_of, simulation_of, words_at}
-use Rattle.vt_model.specs.Sequential.{fired_after, rows_after}
-use Rattle.vt_model.specs.Histories.{AllAfter, IsRising}
-use Rattle.vt_model.specs.Rows.{AreRowsOf, record_time, records_before, RowBefore}
+use Rattle.vt_model.specs.promise.Sends.{RecordRequest, requested_records}
+use Rattle.vt_model.specs.promise.Handler.{Handlers}
+use Rattle.vt_model.specs.promise.Simulation.{Simulation, Triple, rows_of, fire_of, simulation_of, words_at}
+use Rattle.vt_model.specs.promise.Sequential.{fired_after, rows_after}
+use Rattle.vt_model.specs.inside.Histories.{AllAfter, IsRising}
+use Rattle.vt_model.specs.promise.Rows.{AreRowsOf, record_time, RowBefore}
+use Rattle.vt_model.specs.inside.Rows.{records_before}
 
 told_from : (key : Key) (n : ℕ) (rs : List Record) → map (λ (r : Row). r.rec) (map (λ (q : ℕ × Record). record { key = key; index = q.0; rec = q.1 }) (enumerate_from n rs)) ≡ rs
 told_from key n [] = refl

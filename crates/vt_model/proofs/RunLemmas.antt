@@ -6,15 +6,16 @@ use Rattle.std.proofs.lemmas.Bool.{eqb-true, eq-eqb, cases_Bool}
 use Rattle.std.proofs.lemmas.List.Elements.{filter-append}
 use Rattle.std.proofs.lemmas.Grind.{flat_map-append}
 use Rattle.std.proofs.lemmas.List.FromFn.{map-range_with_len_more}
-use Rattle.vt_key.specs.Keys.{Key}
-use Rattle.vt_key.specs.Order.{KeyBefore, key_before, key_same}
-use Rattle.vt_key.specs.Lists.{Among}
+use Rattle.vt_key.specs.promise.Keys.{Key}
+use Rattle.vt_key.specs.promise.Order.{KeyBefore, key_before, key_same}
+use Rattle.vt_key.specs.promise.Lists.{Among}
 use Rattle.vt_key.proofs.OrderLemmas.{key-transitive, key-total, before-key_before, key_same-true, same-key_same}
 use Rattle.vt_key.proofs.ListLemmas.{among-range, range-among, among-flat_map, flat_map-among, among-left, among-right, among-append, among-filter, filter-among, find-among, find-passes, rising-append}
 use Rattle.vt_model.specs.declared.sending.Sent.{Sent}
-use Rattle.vt_model.specs.Simulation.{Simulation, Triple, after}
-use Rattle.vt_model.specs.Sequential.{RunState, events_of, least_event, fired_after, opening, with_event, after_steps}
-use Rattle.vt_model.specs.Histories.{IsRising, AreNumbered, sends_from, sends_of, IsSent, IsLawful}
+use Rattle.vt_model.specs.promise.Simulation.{Simulation, Triple, after}
+use Rattle.vt_model.specs.promise.Sequential.{RunState, events_of, least_event, fired_after, opening, with_event, after_steps}
+use Rattle.vt_model.specs.promise.Histories.{AreNumbered, IsLawful}
+use Rattle.vt_model.specs.inside.Histories.{IsRising, sends_from, sends_of, IsSent}
 
 -- one number more
 pub map-next : {X : Type 0} (f : ℕ → X) (n : ℕ) → map f (range_with_len 0 (n + 1)) ≡ map f (range_with_len 0 n) ++ f n ∷ []

@@ -4,13 +4,14 @@ use Rattle.std.specs.List.{enumerate_from}
 use Rattle.std.proofs.lemmas.List.{map-append}
 use Rattle.std.proofs.lemmas.List.Elements.{filter-append}
 use Rattle.std.proofs.lemmas.Bool.{lt-ltb, le-ltb}
-use Rattle.vt_key.specs.Times.{at, ticks_of, priority_of, time_before}
-use Rattle.vt_key.specs.Keys.{Key}
+use Rattle.vt_key.specs.promise.Times.{at, ticks_of, priority_of, time_before}
+use Rattle.vt_key.specs.promise.Keys.{Key}
 use Rattle.vt_model.specs.declared.rows.Record.{Record}
 use Rattle.vt_model.specs.declared.sending.Sent.{Sent}
-use Rattle.vt_model.specs.Out.{IsOutInside}
+use Rattle.vt_model.specs.inside.Out.{IsOutInside}
 use Rattle.vt_model.specs.declared.limits.TheConstants.{MAX_SENDS}
-use Rattle.vt_model.specs.Sends.{SendRequest, RecordRequest, Outgoing, sent_events, requested_records, with_requests}
+use Rattle.vt_model.specs.promise.Sends.{SendRequest, RecordRequest, sent_events, requested_records}
+use Rattle.vt_model.specs.inside.Sends.{Outgoing, with_requests}
 
 pub enumerate_from-append : {A : Type 0} (n : ℕ) (xs ys : List A) → enumerate_from n (xs ++ ys) ≡ enumerate_from n xs ++ enumerate_from (n + length xs) ys
 enumerate_from-append n [] ys = simp add-zero

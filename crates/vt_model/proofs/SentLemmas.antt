@@ -3,9 +3,9 @@ use Rattle.std.proofs.Common.{◌≡◌, ℕ, ◌+◌, inl, inr, List, [], ◌�
 use Rattle.std.specs.List.{enumerate_from}
 use Rattle.std.proofs.lemmas.List.Sums.{sum_by-cons}
 use Rattle.std.proofs.lemmas.Bool.{cases_Bool}
-use Rattle.vt_key.specs.Times.{Time, time_before}
+use Rattle.vt_key.specs.promise.Times.{Time, time_before}
 use Rattle.vt_model.specs.declared.sending.Sent.{Sent}
-use Rattle.vt_model.specs.Sends.{SendRequest, receive_time, sent_event, sent_events}
+use Rattle.vt_model.specs.promise.Sends.{SendRequest, receive_time, sent_event, sent_events}
 
 module _ {P : Type 0} (end lp : ℕ) (now : Time) where
   -- of the first request and those after it

@@ -3,7 +3,7 @@ use Rattle.std.proofs.Common.{◌≡◌, ℕ, zero, ◌+◌, ◌*◌, ◌-◌, �
 use Rattle.std.proofs.Math.Nat.{mod-lt}
 use prog.Memory.{up}
 use Rattle.vt_model.specs.declared.settings.Config.{Config}
-use Rattle.vt_model.specs.Settings.{end_of}
+use Rattle.vt_model.specs.promise.Settings.{end_of}
 
 up_le : (k e b : ℕ) → 1 ≤ k → k ≤ 16 → e ≤ b → up k e ≤ b + 16
 up_le k e b pos small low =

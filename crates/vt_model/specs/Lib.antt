@@ -1,13 +1,2 @@
-pub mod Settings
-pub mod Sends
-pub mod Out
-pub mod Handler
-pub mod Drawn
-pub mod Simulation
-pub mod Rows
-pub mod Process
-pub mod Sequential
-pub mod Histories
-pub mod Counts
-pub mod Flags
-pub mod Within
+pub mod promise
+pub mod inside

@@ -1,9 +1,9 @@
 //! The random words that one handler draws.
 
 ghost use Rattle.std.specs.Prelude.{◌≡◌, ◌+◌, ◌*◌, ◌/◌, ◌^◌, ◌<◌, ◌≤◌, ◌↔◌, IsTrue};
-ghost use Rattle.vt_stream.specs.Words.{word_of, moved};
-ghost use Rattle.vt_model.specs.Handler.{IsUndrawn};
-ghost use Rattle.vt_model.specs.Drawn.{drawn_in, stream_in, DrawsFrom, IsSameSource};
+ghost use Rattle.vt_stream.specs.inside.Words.{word_of, moved};
+ghost use Rattle.vt_model.specs.inside.Handler.{IsUndrawn};
+ghost use Rattle.vt_model.specs.inside.Drawn.{drawn_in, stream_in, DrawsFrom, IsSameSource};
 
 use crate::MAX_DRAWS;
 use vt_stream::LpStream;

@@ -1,11 +1,12 @@
 //! What a model is.
 
 ghost use Rattle.std.specs.Prelude.{◌≡◌, ◌<◌, ◌≤◌, ◌^◌, ℕ, []};
-ghost use Rattle.vt_key.specs.Times.{Time};
-ghost use Rattle.vt_stream.specs.Words.{word_of, moved};
-ghost use Rattle.vt_model.specs.Sends.{with_requests};
-ghost use Rattle.vt_model.specs.Handler.{Handlers, IsWithinLimits, IsFresh, IsUndrawn, AreWords};
-ghost use Rattle.vt_model.specs.Drawn.{drawn_in, stream_in, IsSameSource};
+ghost use Rattle.vt_key.specs.promise.Times.{Time};
+ghost use Rattle.vt_stream.specs.inside.Words.{word_of, moved};
+ghost use Rattle.vt_model.specs.inside.Sends.{with_requests};
+ghost use Rattle.vt_model.specs.promise.Handler.{Handlers};
+ghost use Rattle.vt_model.specs.inside.Handler.{IsWithinLimits, IsFresh, IsUndrawn, AreWords};
+ghost use Rattle.vt_model.specs.inside.Drawn.{drawn_in, stream_in, IsSameSource};
 ghost use prog.Memory.{size, align};
 ghost use denote.Memory.{lone};
 

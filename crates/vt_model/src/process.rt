@@ -2,12 +2,13 @@
 //! rollback have in common.
 
 ghost use Rattle.std.specs.Prelude.{◌≡◌, ◌+◌, ◌-◌, ◌%◌, ◌<◌, ◌≤◌, ◌^◌, []};
-ghost use Rattle.vt_stream.specs.Words.{moved};
-ghost use Rattle.vt_model.specs.Handler.{IsFresh};
-ghost use Rattle.vt_model.specs.Sends.{with_requests};
-ghost use Rattle.vt_model.specs.Simulation.{simulation_of, words_at, IsFiring};
-ghost use Rattle.vt_model.specs.Process.{triple_at, IsProcessStream};
-ghost use Rattle.vt_model.specs.Settings.{end_of};
+ghost use Rattle.vt_stream.specs.inside.Words.{moved};
+ghost use Rattle.vt_model.specs.inside.Handler.{IsFresh};
+ghost use Rattle.vt_model.specs.inside.Sends.{with_requests};
+ghost use Rattle.vt_model.specs.promise.Simulation.{simulation_of, words_at};
+ghost use Rattle.vt_model.specs.inside.Simulation.{IsFiring};
+ghost use Rattle.vt_model.specs.inside.Process.{triple_at, IsProcessStream};
+ghost use Rattle.vt_model.specs.promise.Settings.{end_of};
 
 use crate::{Bits, Config, Draws, MAX_DRAWS, MAX_SENDS, Model as EventModel, Out, Sent};
 use vt_stream::LpStream;

@@ -1,7 +1,7 @@
 //! Records, and the rows that order them.
 
 ghost use Rattle.std.specs.Prelude.{◌≡◌};
-ghost use Rattle.vt_model.specs.Rows.{record_time};
+ghost use Rattle.vt_model.specs.promise.Rows.{record_time};
 
 use vt_key::{Key, When};
 

@@ -1,9 +1,9 @@
 //! What a handler sends and records.
 
 ghost use Rattle.std.specs.Prelude.{◌≡◌, ◌+◌, ◌^◌, ◌<◌, ◌≤◌, ◌↔◌, ◌++◌, [], ◌∷◌, length, IsTrue};
-ghost use Rattle.vt_key.specs.Times.{TimeBefore, at, ticks_of};
-ghost use Rattle.vt_model.specs.Settings.{end_of};
-ghost use Rattle.vt_model.specs.Out.{sends_held};
+ghost use Rattle.vt_key.specs.promise.Times.{TimeBefore, at, ticks_of};
+ghost use Rattle.vt_model.specs.promise.Settings.{end_of};
+ghost use Rattle.vt_model.specs.inside.Out.{sends_held};
 
 use crate::{Config, MAX_RECORDS, MAX_SENDS, Record};
 use arrayvec::ArrayVec;
@@ -47,11 +47,11 @@ pub struct Out<P: Copy> {
 
 impl<P: Copy> Model for Out<P> {
     ghost use Rattle.std.specs.Prelude.{◌≡◌, ◌≤◌, ◌<◌, ◌+◌, ◌^◌, length};
-    ghost use Rattle.vt_model.specs.Sends.{Outgoing};
+    ghost use Rattle.vt_model.specs.inside.Sends.{Outgoing};
 
     ghost Value = { Outgoing P };
 
-    ghost use Rattle.vt_model.specs.Out.{sends_held, IsOutInside};
+    ghost use Rattle.vt_model.specs.inside.Out.{sends_held, IsOutInside};
 
     ghost view = { λ o. record {
       lps = o.lps;
@@ -68,8 +68,8 @@ impl<P: Copy> Model for Out<P> {
 }
 
 impl<P: Copy> Out<P> {
-    ghost use Rattle.vt_model.specs.Sends.{with_requests};
-    ghost use Rattle.vt_model.specs.Handler.{IsFresh};
+    ghost use Rattle.vt_model.specs.inside.Sends.{with_requests};
+    ghost use Rattle.vt_model.specs.inside.Handler.{IsFresh};
 
     /// The `out` of a handler of process `lp` at time `now`, whose next send number is `number`. For simulators: `lp` is
     /// below `config.lps`, `now` below `config.end()`, and `number` at most 2^63.

@@ -1,7 +1,7 @@
 //! The numbers of a run.
 
 ghost use Rattle.std.specs.Prelude.{◌≡◌, ◌<◌, ◌≤◌, ◌/◌, ◌%◌, None, IfOk, IfErr, IsSome};
-ghost use Rattle.vt_key.specs.Faults.{option_named};
+ghost use Rattle.vt_key.specs.promise.Faults.{option_named};
 ghost use Rattle.vt_key.specs.declared.limits.TheConstants.{MAX_PROCESSES, MAX_WORKERS, MAX_END};
 
 use vt_key::{Fault, MAX_END, MAX_PROCESSES, MAX_WORKERS, When};
@@ -27,7 +27,8 @@ pub struct Config {
 }
 
 impl Config {
-    ghost use Rattle.vt_model.specs.Settings.{first_bad_setting, end_of};
+    ghost use Rattle.vt_model.specs.promise.Settings.{end_of};
+    ghost use Rattle.vt_model.specs.inside.Settings.{first_bad_setting};
 
     /// The config of these numbers. `end` is in ticks.
     ///

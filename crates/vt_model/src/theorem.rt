@@ -2,13 +2,14 @@
 //! history.
 
 ghost use Rattle.std.specs.Prelude.{◌≡◌, ◌<◌, ◌≤◌, ℕ, suc, List, [], length};
-ghost use Rattle.vt_key.specs.Times.{Time};
-ghost use Rattle.vt_key.specs.Lists.{IsRisingBy};
-ghost use Rattle.vt_model.specs.Simulation.{simulation_of};
-ghost use Rattle.vt_model.specs.Sequential.{opening, after_steps, weight, whole_run, rows_after, seq_rows, seq_events, events_before, events_of};
-ghost use Rattle.vt_model.specs.Histories.{AreDistinct, IsHistory, IsLawful, IsRising};
+ghost use Rattle.vt_key.specs.promise.Times.{Time};
+ghost use Rattle.vt_key.specs.promise.Lists.{IsRisingBy};
+ghost use Rattle.vt_model.specs.promise.Simulation.{simulation_of};
+ghost use Rattle.vt_model.specs.promise.Sequential.{opening, after_steps, weight, whole_run, rows_after, seq_rows, seq_events, events_before, events_of};
+ghost use Rattle.vt_model.specs.promise.Histories.{IsLawful};
+ghost use Rattle.vt_model.specs.inside.Histories.{AreDistinct, IsHistory, IsRising};
 ghost use Rattle.vt_model.specs.declared.sending.Sent.{Sent};
-ghost use Rattle.vt_model.specs.Rows.{RowBefore};
+ghost use Rattle.vt_model.specs.promise.Rows.{RowBefore};
 
 use crate::{Config, Model};
 

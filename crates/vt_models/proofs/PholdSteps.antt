@@ -1,13 +1,13 @@
 -- Steps of `Phold`'s handlers.
 use Rattle.std.proofs.Common.{◌≡◌, ℕ, ◌+◌, ◌<◌, ◌≤◌, [], ◌∷◌, Bool, sym, ap, ◌∙◌, if◌then◌else◌}
 use Rattle.std.proofs.lemmas.Bool.{lt-ltb, le-ltb}
-use Rattle.vt_model.specs.Handler.{ForwardResult}
-use Rattle.vt_model.specs.Sends.{Outgoing, with_requests}
-use Rattle.vt_model.specs.Counts.{one_more}
+use Rattle.vt_model.specs.promise.Handler.{ForwardResult}
+use Rattle.vt_model.specs.inside.Sends.{Outgoing, with_requests}
+use Rattle.vt_model.specs.promise.Counts.{one_more}
 use Rattle.vt_models.specs.declared.phold.Phold.{Phold}
 use Rattle.vt_models.specs.declared.phold.TheConstants.{PERCENT}
-use Rattle.vt_stream.specs.Drawn.{scaled}
-use Rattle.vt_models.specs.Phold.{phold_forward, forward_remote, forward_local}
+use Rattle.vt_stream.specs.promise.Drawn.{scaled}
+use Rattle.vt_models.specs.promise.Phold.{phold_forward, forward_remote, forward_local}
 
 module _ (m : Phold) (lps lp s : ℕ) (words : ℕ → ℕ) where
   -- an out after one scheduled and the record of the count

@@ -4,7 +4,7 @@ use Rattle.vt_models.specs.declared.stations.Stations.{Stations}
 use Rattle.vt_models.specs.declared.stations.Server.{Server}
 use Rattle.vt_models.specs.declared.stations.JobEvent.{JobEvent}
 use Rattle.vt_models.specs.declared.stations.JobEvent.TheVariants.{Arrive, Depart}
-use Rattle.vt_models.specs.Stations.{start_idle, start_busy, stations_start, one_job_more, arrival_begins, arrival_waits, one_served, nothing_departs, last_departs, next_follows, service_end, stations_forward}
+use Rattle.vt_models.specs.promise.Stations.{start_idle, start_busy, stations_start, one_job_more, arrival_begins, arrival_waits, one_served, nothing_departs, last_departs, next_follows, service_end, stations_forward}
 
 is_not : (a b : ℕ) → (a ≡ b → ⊥) → nat_eq a b ≡ false
 is_not a b differ = search (arith)

@@ -1,9 +1,9 @@
 //! Tokens that hop from process to process: the smallest model that shows the order of events.
 
 ghost use Rattle.std.specs.Prelude.{◌≡◌, ◌≤◌, None, IfOk, IfErr, IsSome};
-ghost use Rattle.vt_key.specs.Faults.{option_named};
+ghost use Rattle.vt_key.specs.promise.Faults.{option_named};
 ghost use Rattle.vt_models.specs.declared.hop.TheConstants.{MAX_HOPS, MAX_STRIDE, MAX_DELAY, MAX_RISE};
-ghost use Rattle.vt_models.specs.Options.{first_bad_hop_option};
+ghost use Rattle.vt_models.specs.inside.Options.{first_bad_hop_option};
 
 use vt_key::{Fault, When};
 use vt_model::{Bits, Draws, Model as EventModel, Out};
@@ -55,7 +55,7 @@ pub struct Hop {
 }
 
 impl Hop {
-    ghost use Rattle.vt_models.specs.Hop.{risen};
+    ghost use Rattle.vt_models.specs.promise.Hop.{risen};
 
     /// The model in which each token hops `hops` times (0 to 1,000,000), by `stride` processes (0 to 65,535), after
     /// `delay` ticks (1 to 1,000,000), or within the tick where its priority can rise by `rise` (0 to 255; 0 is no rise).
@@ -107,8 +107,8 @@ impl EventModel for Hop {
 
     ghost use Rattle.std.specs.Prelude.{◌<◌, ◌^◌};
     ghost use Rattle.std.proofs.Common.{lit<, lit≤};
-    ghost use Rattle.vt_models.specs.Hop.{hop_handlers};
-    ghost use Rattle.vt_models.specs.HopLaws.{start_within, forward_within, forward_state, undoes};
+    ghost use Rattle.vt_models.specs.promise.Hop.{hop_handlers};
+    ghost use Rattle.vt_models.specs.inside.HopLaws.{start_within, forward_within, forward_state, undoes};
 
     ghost handlers = { hop_handlers };
 

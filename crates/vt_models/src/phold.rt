@@ -1,9 +1,9 @@
 //! PHOLD: events that each send just one other, so that their number stays the same.
 
 ghost use Rattle.std.specs.Prelude.{◌≡◌, ◌≤◌, None, IfOk, IfErr, IsSome};
-ghost use Rattle.vt_key.specs.Faults.{option_named};
+ghost use Rattle.vt_key.specs.promise.Faults.{option_named};
 ghost use Rattle.vt_models.specs.declared.phold.TheConstants.{MAX_POPULATION, MAX_REMOTE, MAX_LOOKAHEAD, MAX_SPAN};
-ghost use Rattle.vt_models.specs.Options.{first_bad_phold_option};
+ghost use Rattle.vt_models.specs.inside.Options.{first_bad_phold_option};
 
 use vt_key::{Fault, When};
 use vt_model::{Bits, Draws, MAX_SENDS, Model as EventModel, Out};
@@ -92,8 +92,8 @@ impl EventModel for Phold {
 
     ghost use Rattle.std.specs.Prelude.{◌<◌, ◌^◌};
     ghost use Rattle.std.proofs.Common.{lit<, lit≤};
-    ghost use Rattle.vt_models.specs.Phold.{phold_handlers};
-    ghost use Rattle.vt_models.specs.PholdLaws.{start_within, forward_within, forward_state, undoes};
+    ghost use Rattle.vt_models.specs.promise.Phold.{phold_handlers};
+    ghost use Rattle.vt_models.specs.inside.PholdLaws.{start_within, forward_within, forward_state, undoes};
 
     ghost handlers = { phold_handlers };
 

@@ -1,13 +1,13 @@
 //! A closed network of stations: jobs queue at servers, are served one at a time, and travel on.
 
 ghost use Rattle.std.specs.Prelude.{◌≡◌, ◌+◌, ◌^◌, ◌<◌, ◌≤◌, [], ◌∷◌, None, IfOk, IfErr, IsSome};
-ghost use Rattle.vt_key.specs.Faults.{option_named};
+ghost use Rattle.vt_key.specs.promise.Faults.{option_named};
 ghost use Rattle.vt_model.specs.declared.limits.TheConstants.{MAX_DRAWS, MAX_SENDS};
-ghost use Rattle.vt_model.specs.Drawn.{drawn_in, stream_in, IsSameSource};
-ghost use Rattle.vt_stream.specs.Words.{word_of, moved};
-ghost use Rattle.vt_model.specs.Sends.{with_requests};
+ghost use Rattle.vt_model.specs.inside.Drawn.{drawn_in, stream_in, IsSameSource};
+ghost use Rattle.vt_stream.specs.inside.Words.{word_of, moved};
+ghost use Rattle.vt_model.specs.inside.Sends.{with_requests};
 ghost use Rattle.vt_models.specs.declared.stations.TheConstants.{MAX_JOBS, MAX_SERVICE, MAX_TRAVEL};
-ghost use Rattle.vt_models.specs.Options.{first_bad_stations_option};
+ghost use Rattle.vt_models.specs.inside.Options.{first_bad_stations_option};
 
 use vt_key::{Fault, When};
 use vt_model::{Bits, Draws, Model as EventModel, Out};
@@ -70,7 +70,7 @@ pub struct Stations {
 }
 
 impl Stations {
-    ghost use Rattle.vt_models.specs.Stations.{departure};
+    ghost use Rattle.vt_models.specs.promise.Stations.{departure};
 
     /// The model with `jobs` jobs at each station (0 to 1,000), services of one tick and a draw below `service` ticks
     /// (1 to 1,000,000), and passages of `travel` ticks (1 to 1,000,000).
@@ -121,8 +121,9 @@ impl EventModel for Stations {
     type Kept = ();
 
     ghost use Rattle.std.proofs.Common.{lit<, lit≤};
-    ghost use Rattle.vt_models.specs.Stations.{stations_handlers, IsServer};
-    ghost use Rattle.vt_models.specs.StationsLaws.{start_within, forward_within, start_state, forward_state, undoes};
+    ghost use Rattle.vt_models.specs.promise.Stations.{stations_handlers};
+    ghost use Rattle.vt_models.specs.inside.Stations.{IsServer};
+    ghost use Rattle.vt_models.specs.inside.StationsLaws.{start_within, forward_within, start_state, forward_state, undoes};
 
     ghost handlers = { stations_handlers };
 

@@ -3,19 +3,20 @@ use Rattle.std.proofs.Common.{◌≡◌, ℕ, zero, suc, ◌+◌, inl, List, [],
 use Rattle.std.specs.List.{range_with_len}
 use Rattle.std.proofs.lemmas.List.{map-append}
 use Rattle.std.proofs.lemmas.List.Sums.{sum_by-append, sum_by_push}
-use Rattle.vt_key.specs.Order.{key_same}
-use Rattle.vt_key.specs.Lists.{Among}
+use Rattle.vt_key.specs.promise.Order.{key_same}
+use Rattle.vt_key.specs.promise.Lists.{Among}
 use Rattle.vt_model.specs.declared.rows.Row.{Row}
 use Rattle.vt_model.specs.declared.rows.Record.{Record}
 use Rattle.vt_model.specs.declared.sending.Sent.{Sent}
 use Rattle.vt_model.specs.declared.settings.Config.{Config}
-use Rattle.vt_model.specs.Simulation.{Triple, words_at, start_of, fire_of, after}
-use Rattle.vt_model.specs.Sequential.{RunState, events_of, fired_after, opening, with_event, after_steps, rows_after, records_of}
-use Rattle.vt_model.specs.Histories.{AreDistinct, IsLawful}
-use Rattle.vt_model.specs.Settings.{end_of}
+use Rattle.vt_model.specs.promise.Simulation.{Triple, words_at, start_of, fire_of, after}
+use Rattle.vt_model.specs.promise.Sequential.{RunState, events_of, fired_after, opening, with_event, after_steps, rows_after, records_of}
+use Rattle.vt_model.specs.promise.Histories.{IsLawful}
+use Rattle.vt_model.specs.inside.Histories.{AreDistinct}
+use Rattle.vt_model.specs.promise.Settings.{end_of}
 use Rattle.vt_model.proofs.LawLemmas.{lawful_of, after_state}
 use Rattle.vt_model.proofs.RunLemmas.{each_step, after-snoc, events_of-same, events_of-other, known_sent, lists_of, least-found, IsReached, reached, flat-next}
-use Rattle.vt_parts.specs.Ring.{item_count}
+use Rattle.vt_parts.specs.inside.Ring.{item_count}
 use Rattle.vt_model.proofs.DistinctLemmas.{sum_by-without, distinct_pending}
 use Rattle.vt_model.proofs.SumLemmas.{sum-next, sum_one}
 use Rattle.vt_model.proofs.SentLemmas.{sent_or_past}
@@ -23,9 +24,9 @@ use Rattle.vt_network.specs.declared.network.Network.{Network}
 use Rattle.vt_network.specs.declared.network.Router.{Router}
 use Rattle.vt_network.specs.declared.network.NetworkEvent.{NetworkEvent}
 use Rattle.vt_network.specs.declared.network.TheConstants.{DELIVERED, DROPPED}
-use Rattle.vt_network.specs.Network.{network_start, network_forward, network_handlers, IsRouter}
-use Rattle.vt_network.specs.NetworkLaws.{start_within, forward_within, start_state, forward_state}
-use Rattle.vt_network.specs.Packets.{packets_made_at, packets_brought, packets_made, packets_under_way, records_of_kind, packets_sent_past, network, packets_delivered, packets_dropped, packets_in_buffers, sent_past_by, sent_past_after, packets_past_end}
+use Rattle.vt_network.specs.inside.Network.{network_start, network_forward, network_handlers, IsRouter}
+use Rattle.vt_network.specs.inside.NetworkLaws.{start_within, forward_within, start_state, forward_state}
+use Rattle.vt_network.specs.inside.Packets.{packets_made_at, packets_brought, packets_made, packets_under_way, records_of_kind, packets_sent_past, network, packets_delivered, packets_dropped, packets_in_buffers, sent_past_by, sent_past_after, packets_past_end}
 use Rattle.vt_network.proofs.PacketLemmas.{forward-packets, counted-rows}
 
 -- the packet of a sent event

@@ -3,15 +3,15 @@ use Rattle.std.proofs.Common.{◌≡◌, ℕ, ◌+◌, ◌-◌, List, map, slice
 use Rattle.std.specs.List.{enumerate_from}
 use Rattle.std.proofs.lemmas.Bool.{eqb-false}
 use Rattle.std.proofs.lemmas.List.Sums.{sum_by-cons}
-use Rattle.vt_key.specs.Times.{Time, ticks_of, priority_of}
-use Rattle.vt_key.specs.Keys.{Key}
+use Rattle.vt_key.specs.promise.Times.{Time, ticks_of, priority_of}
+use Rattle.vt_key.specs.promise.Keys.{Key}
 use Rattle.vt_model.specs.declared.rows.Record.{Record}
-use Rattle.vt_model.specs.Sends.{SendRequest, RecordRequest, requested_records}
-use Rattle.vt_model.specs.Simulation.{rows_of}
-use Rattle.vt_model.specs.Sequential.{records_of}
+use Rattle.vt_model.specs.promise.Sends.{SendRequest, RecordRequest, requested_records}
+use Rattle.vt_model.specs.promise.Simulation.{rows_of}
+use Rattle.vt_model.specs.promise.Sequential.{records_of}
 use Rattle.vt_parts.specs.declared.ring.Ring.{Ring}
-use Rattle.vt_parts.specs.Ring.{place, is_empty, is_full, item_count, popped}
-use Rattle.vt_parts.specs.RingLaws.{some_within}
+use Rattle.vt_parts.specs.inside.Ring.{place, is_empty, is_full, item_count, popped}
+use Rattle.vt_parts.specs.inside.RingLaws.{some_within}
 use Rattle.vt_network.specs.declared.packet.Packet.{Packet}
 use Rattle.vt_network.specs.declared.packet.TheConstants.{ROOM}
 use Rattle.vt_network.specs.declared.network.Network.{Network}
@@ -19,8 +19,8 @@ use Rattle.vt_network.specs.declared.network.Router.{Router}
 use Rattle.vt_network.specs.declared.network.NetworkEvent.{NetworkEvent}
 use Rattle.vt_network.specs.declared.network.NetworkEvent.TheVariants.{Generate, Arrive, Served}
 use Rattle.vt_network.specs.declared.network.TheConstants.{DELIVERED, DROPPED}
-use Rattle.vt_network.specs.Network.{served, forwarded, with_delivery, taken, arrived, arrived_sends, arrived_records, delivery, loss, router_after, sent_on, gone_sends, sends_by, records_by, IsRouter}
-use Rattle.vt_network.specs.Packets.{packets_made_at, packets_brought, records_of_kind}
+use Rattle.vt_network.specs.inside.Network.{served, forwarded, with_delivery, taken, arrived, arrived_sends, arrived_records, delivery, loss, router_after, sent_on, gone_sends, sends_by, records_by, IsRouter}
+use Rattle.vt_network.specs.inside.Packets.{packets_made_at, packets_brought, records_of_kind}
 
 -- the packets that these requests send
 abbrev pub packets_sent : List (SendRequest NetworkEvent) → ℕ

@@ -1,4 +1,1 @@
-pub mod Options
-pub mod Network
-pub mod NetworkLaws
-pub mod Packets
+pub mod inside

@@ -1,10 +1,10 @@
 //! A law that holds of every run of the model.
 
 ghost use Rattle.std.specs.Prelude.{◌≡◌, ◌+◌, ℕ};
-ghost use Rattle.vt_model.specs.Simulation.{simulation_of};
-ghost use Rattle.vt_model.specs.Sequential.{after_steps};
-ghost use Rattle.vt_network.specs.Network.{network_handlers};
-ghost use Rattle.vt_network.specs.Packets.{packets_made, packets_delivered, packets_dropped, packets_in_buffers, packets_under_way, packets_past_end};
+ghost use Rattle.vt_model.specs.promise.Simulation.{simulation_of};
+ghost use Rattle.vt_model.specs.promise.Sequential.{after_steps};
+ghost use Rattle.vt_network.specs.inside.Network.{network_handlers};
+ghost use Rattle.vt_network.specs.inside.Packets.{packets_made, packets_delivered, packets_dropped, packets_in_buffers, packets_under_way, packets_past_end};
 
 use crate::Network;
 use vt_model::Config;

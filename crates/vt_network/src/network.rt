@@ -2,13 +2,13 @@
 
 ghost use Rattle.std.specs.Prelude.{◌≡◌, ◌+◌, ◌<◌, ◌≤◌, [], length, None, IfOk, IfErr};
 ghost use Rattle.std.specs.Option.{IsSome};
-ghost use Rattle.vt_key.specs.Faults.{option_named};
+ghost use Rattle.vt_key.specs.promise.Faults.{option_named};
 ghost use Rattle.vt_key.specs.declared.limits.TheConstants.{MAX_PROCESSES};
 ghost use Rattle.vt_model.specs.declared.limits.TheConstants.{MAX_SENDS, MAX_RECORDS};
-ghost use Rattle.vt_model.specs.Sends.{with_requests};
-ghost use Rattle.vt_parts.specs.Ring.{first};
+ghost use Rattle.vt_model.specs.inside.Sends.{with_requests};
+ghost use Rattle.vt_parts.specs.inside.Ring.{first};
 ghost use Rattle.vt_network.specs.declared.network.TheConstants.{MAX_TICKS};
-ghost use Rattle.vt_network.specs.Options.{first_bad_option};
+ghost use Rattle.vt_network.specs.inside.Options.{first_bad_option};
 
 use crate::packet::{BLANK, Buffer, Packet, ROOM};
 use vt_key::{Fault, MAX_PROCESSES, When};
@@ -78,8 +78,8 @@ pub struct Network {
 }
 
 impl Network {
-    ghost use Rattle.vt_model.specs.Counts.{one_more};
-    ghost use Rattle.vt_network.specs.Network.{longest_link, next_hop, made_sends, arrived, arrived_kept, arrived_sends, arrived_records, gone_on, goes_on, gone_sends};
+    ghost use Rattle.vt_model.specs.promise.Counts.{one_more};
+    ghost use Rattle.vt_network.specs.inside.Network.{longest_link, next_hop, made_sends, arrived, arrived_kept, arrived_sends, arrived_records, gone_on, goes_on, gone_sends};
 
     /// The network whose chords lead `columns` (1 to 65,536) routers on, with up to `gap` ticks between two packets of a host,
     /// `service` ticks of work for a packet and `link` ticks on a link (each 1 to 1,000,000).
@@ -232,8 +232,8 @@ impl EventModel for Network {
     type Kept = Option<Packet>;
 
     ghost use Rattle.std.proofs.Common.{lit<, lit≤};
-    ghost use Rattle.vt_network.specs.Network.{network_handlers, IsRouter};
-    ghost use Rattle.vt_network.specs.NetworkLaws.{start_within, forward_within, start_state, forward_state, undoes};
+    ghost use Rattle.vt_network.specs.inside.Network.{network_handlers, IsRouter};
+    ghost use Rattle.vt_network.specs.inside.NetworkLaws.{start_within, forward_within, start_state, forward_state, undoes};
 
     ghost handlers = { network_handlers };
 

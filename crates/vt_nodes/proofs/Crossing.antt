@@ -10,7 +10,7 @@ use mir.Raw.{raw}
 use denote.Memory.{lone}
 use Rattle.std_alloc.proofs.SendSync.{lies, quiet}
 use Rattle.std.proofs.Crossing.{frees}
-use Rattle.vt_nodes.specs.Blocks.{blocks_owned}
+use Rattle.vt_nodes.specs.inside.Blocks.{blocks_owned}
 use Rattle.vt_nodes.specs.contracts.blocks.Blocks as Blocks
 
 module _ (R : RattleType) (s : IsSend R) where

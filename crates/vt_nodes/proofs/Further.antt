@@ -2,8 +2,8 @@
 use Rattle.std.proofs.Common.{Bool, true, false, not, if◌then◌else◌, ◌≡◌, refl, sym, ap, ◌∙◌, arith}
 use Rattle.std.specs.Prelude.{◌<◌, List, [], ◌∷◌, ◌++◌, length}
 use Rattle.std.proofs.lemmas.List.{append-nil, append_assoc}
-use Rattle.vt_nodes.specs.First.{before_first, from_first, first_fails}
-use Rattle.vt_nodes.specs.Linked.{advanced}
+use Rattle.vt_nodes.specs.inside.First.{before_first, from_first, first_fails}
+use Rattle.vt_nodes.specs.inside.Linked.{advanced}
 
 -- where one is ahead that fails, the place behind it parts the same items
 pub record IsFurther {X : Type 0} (test : X → Bool) (old new : List X × List X) : Type 0 where

@@ -14,7 +14,7 @@ use denote.SharingLaws.{beside_shr_laws, nothing_shr_laws}
 use denote.Shares.{Shares-less}
 use denote.Struct.Lending.{lent_at, lent_at_shr_laws, Lends, Lends-lies, Lends-first, Lends-both, Lends-nothing}
 use Rattle.std_alloc.specs.Box.Ownership.{box_owns}
-use Rattle.vt_nodes.specs.Blocks.{may_free, blocks_owned, blocks_lent}
+use Rattle.vt_nodes.specs.inside.Blocks.{may_free, blocks_owned, blocks_lent}
 
 -- what is lent can be copied, and lent for less long
 pub blocks_lent-laws : (R : RattleType) → RowLaws R → (bs : List (Ptr × R.Denot)) → ShrLaws (blocks_lent R bs)

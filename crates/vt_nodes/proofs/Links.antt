@@ -5,9 +5,9 @@ use Rattle.std.proofs.lemmas.List.{take_at, drop_at, length-append, append_assoc
 use Rattle.std.proofs.lemmas.Option.{none-some}
 use Rattle.std.specs.Option.{unwrap_or}
 use denote.RawPtr.{Ptr, null_ptr}
-use Rattle.vt_nodes.specs.Blocks.{places, place_at}
+use Rattle.vt_nodes.specs.inside.Blocks.{places, place_at}
 use Rattle.vt_nodes.specs.declared.node.Node.{Node}
-use Rattle.vt_nodes.specs.Linked.{NodeAt, first_or, last_or, with_next, with_prev, items, LeadOn, LeadBack, IsChain, IsPlace}
+use Rattle.vt_nodes.specs.inside.Linked.{NodeAt, first_or, last_or, with_next, with_prev, items, LeadOn, LeadBack, IsChain, IsPlace}
 
 -- ---- ends
 

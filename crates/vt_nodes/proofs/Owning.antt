@@ -22,7 +22,7 @@ use denote.Struct.Owning.{shape}
 use denote.Struct.Lending.{lent_at}
 use Rattle.std.proofs.GlobalToken.{dealloc_token-Testable}
 use Rattle.std_alloc.specs.Box.Ownership.{box_owns}
-use Rattle.vt_nodes.specs.Blocks.{may_free, blocks_owned, blocks_lent, places, place_at}
+use Rattle.vt_nodes.specs.inside.Blocks.{may_free, blocks_owned, blocks_lent, places, place_at}
 use Rattle.vt_nodes.specs.contracts.blocks.Blocks as blocks
 
 -- the first of some places, or q

@@ -4,7 +4,7 @@ use Rattle.std.specs.Prelude.{List, [], ◌∷◌, ◌++◌, take, drop, Option,
 use Rattle.std.proofs.lemmas.Option.{none-some}
 use denote.RawPtr.{Ptr}
 use Rattle.vt_nodes.specs.declared.node.Node.{Node}
-use Rattle.vt_nodes.specs.Linked.{NodeAt, first_or, LeadOn, IsPath}
+use Rattle.vt_nodes.specs.inside.Linked.{NodeAt, first_or, LeadOn, IsPath}
 use Rattle.vt_nodes.proofs.Links.{first-append, last-append, on-append}
 
 module _ {X : Type 0} where

@@ -5,8 +5,8 @@ use Rattle.std.proofs.lemmas.List.{append-nil, append_assoc, map-append}
 use Rattle.std.proofs.lemmas.Option.{none-some}
 use denote.RawPtr.{Ptr}
 use Rattle.vt_nodes.specs.declared.node.Node.{Node}
-use Rattle.vt_nodes.specs.Linked.{NodeAt, first_or, with_prev, items, LeadOn}
-use Rattle.vt_nodes.specs.Lines.{put_before, lines_of, row_head, LeadsBack, StandInRow, ArePassed}
+use Rattle.vt_nodes.specs.inside.Linked.{NodeAt, first_or, with_prev, items, LeadOn}
+use Rattle.vt_nodes.specs.inside.Lines.{put_before, lines_of, row_head, LeadsBack, StandInRow, ArePassed}
 use Rattle.vt_nodes.proofs.Links.{first-append}
 use Rattle.vt_nodes.proofs.Rows.{TakenOff, row-begins, put-on-lines, put-on}
 

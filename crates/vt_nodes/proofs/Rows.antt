@@ -4,8 +4,8 @@ use Rattle.std.specs.Prelude.{suc, List, [], ◌∷◌, ◌++◌, length, take, 
 use Rattle.std.proofs.lemmas.Option.{none-some}
 use denote.RawPtr.{Ptr}
 use Rattle.vt_nodes.specs.declared.node.Node.{Node}
-use Rattle.vt_nodes.specs.Linked.{NodeAt, first_or, with_prev, items, LeadOn}
-use Rattle.vt_nodes.specs.Lines.{put_before, lines_of, first_length, row_head, LeadsBack, StandInRow}
+use Rattle.vt_nodes.specs.inside.Linked.{NodeAt, first_or, with_prev, items, LeadOn}
+use Rattle.vt_nodes.specs.inside.Lines.{put_before, lines_of, first_length, row_head, LeadsBack, StandInRow}
 
 module _ {X : Type 0} where
   -- nodes are the first list and the others

@@ -2,7 +2,7 @@
 use Rattle.std.proofs.Common.{◌≡◌, refl, sym, ap, ◌∙◌, arith}
 use Rattle.std.specs.Prelude.{ℕ, zero, suc, ◌+◌, ◌≤◌, List, [], ◌∷◌, length, take, drop}
 use Rattle.std.proofs.lemmas.List.{take_all, drop_all, length-drop}
-use Rattle.vt_nodes.specs.Linked.{advanced}
+use Rattle.vt_nodes.specs.inside.Linked.{advanced}
 
 module _ {X : Type 0} where
   advanced-more : (x : X) (passed ahead : List X) → advanced (x ∷ passed, ahead) ≡ (x ∷ (advanced (passed, ahead)).0, (advanced (passed, ahead)).1)

@@ -1,5 +1,1 @@
-pub mod Blocks
-pub mod First
-pub mod Lines
-pub mod Linked
-pub mod Place
+pub mod inside

@@ -2,8 +2,8 @@
 
 ghost use Rattle.std.specs.Prelude.{◌≡◌, ℕ, ◌<◌, List, [], ◌∷◌, ◌++◌, take, drop, length, slice_index_or};
 ghost use denote.RawPtr.{Ptr};
-ghost use Rattle.vt_nodes.specs.Blocks.{blocks_owned, blocks_lent, places, contents, place_at};
-ghost use Rattle.vt_nodes.specs.Place.{IsSomewhere};
+ghost use Rattle.vt_nodes.specs.inside.Blocks.{blocks_owned, blocks_lent, places, contents, place_at};
+ghost use Rattle.vt_nodes.specs.inside.Place.{IsSomewhere};
 
 use std::alloc::Global;
 use std::marker::{Model, PhantomData};

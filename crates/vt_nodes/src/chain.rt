@@ -23,7 +23,7 @@ pub struct Chain<T> {
 
 impl<T> Model for Chain<T> {
     ghost use Rattle.std.specs.Prelude.{List};
-    ghost use Rattle.vt_nodes.specs.Linked.{IsChain, items};
+    ghost use Rattle.vt_nodes.specs.inside.Linked.{IsChain, items};
 
     ghost Value = { List T };
 

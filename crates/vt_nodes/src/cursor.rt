@@ -1,8 +1,8 @@
 //! A position in a chain.
 
 ghost use Rattle.std.specs.Prelude.{◌≡◌, ◌-◌, ◌↔◌, [], ◌∷◌, ◌++◌, length, take, drop, MatchOption, IsTrue};
-ghost use Rattle.vt_nodes.specs.First.{before_first, from_first, first_fails};
-ghost use Rattle.vt_nodes.specs.Linked.{advanced};
+ghost use Rattle.vt_nodes.specs.inside.First.{before_first, from_first, first_fails};
+ghost use Rattle.vt_nodes.specs.inside.Linked.{advanced};
 
 use crate::blocks::Blocks;
 use crate::chain::Chain;
@@ -26,7 +26,7 @@ pub(crate) struct Cursor<T> {
 
 impl<T> Model for Cursor<T> {
     ghost use Rattle.std.specs.Prelude.{List};
-    ghost use Rattle.vt_nodes.specs.Linked.{IsPlace, items};
+    ghost use Rattle.vt_nodes.specs.inside.Linked.{IsPlace, items};
 
     ghost Value = { List T × List T };
 

@@ -1,7 +1,7 @@
 //! Pointers that may be null.
 
 ghost use Rattle.std.specs.Prelude.{◌≡◌, ◌↔◌, None, Some, IsTrue};
-ghost use Rattle.vt_nodes.specs.Place.{IsSomewhere};
+ghost use Rattle.vt_nodes.specs.inside.Place.{IsSomewhere};
 
 use std::marker::Model;
 use std::ptr::{NonNull, null_mut};
@@ -19,7 +19,7 @@ impl Model for Link {
     ghost use Rattle.std.specs.Coded.{coded_option};
     ghost use Rattle.std.proofs.Common.{ap};
     ghost use denote.RawPtr.{Ptr, Testable, coded_ptr};
-    ghost use Rattle.vt_nodes.specs.Place.{place_of, pointer_of, pointer_of-place};
+    ghost use Rattle.vt_nodes.specs.inside.Place.{place_of, pointer_of, pointer_of-place};
 
     ghost Value = { Option Ptr };
 

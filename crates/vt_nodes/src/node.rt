@@ -1,8 +1,8 @@
 //! A node of a list, and the writes of its links.
 
 ghost use Rattle.std.specs.Prelude.{◌≡◌, [], ◌∷◌, map, None, Some};
-ghost use Rattle.vt_nodes.specs.Blocks.{places};
-ghost use Rattle.vt_nodes.specs.Linked.{first_or, last_or, with_next, with_prev};
+ghost use Rattle.vt_nodes.specs.inside.Blocks.{places};
+ghost use Rattle.vt_nodes.specs.inside.Linked.{first_or, last_or, with_next, with_prev};
 
 use crate::blocks::Blocks;
 use crate::link::Link;

@@ -2,9 +2,9 @@
 
 ghost use Rattle.std.specs.Prelude.{◌≡◌, [], ◌++◌, IfNone};
 ghost use Rattle.std.specs.Option.{option_copied};
-ghost use Rattle.vt_nodes.specs.First.{before_first, from_first, first_fails};
-ghost use Rattle.vt_nodes.specs.Linked.{advanced};
-ghost use Rattle.vt_nodes.specs.Lines.{first_item, begins_with};
+ghost use Rattle.vt_nodes.specs.inside.First.{before_first, from_first, first_fails};
+ghost use Rattle.vt_nodes.specs.inside.Linked.{advanced};
+ghost use Rattle.vt_nodes.specs.inside.Lines.{first_item, begins_with};
 
 use crate::blocks::Blocks;
 use crate::link::Link;
@@ -28,8 +28,8 @@ pub(crate) struct RowPath<T> {
 
 impl<T> Model for RowPath<T> {
     ghost use Rattle.std.specs.Prelude.{◌≡◌, ◌++◌, List, None, map};
-    ghost use Rattle.vt_nodes.specs.Linked.{first_or, items};
-    ghost use Rattle.vt_nodes.specs.Lines.{lines_of, StandInRow, ArePassed};
+    ghost use Rattle.vt_nodes.specs.inside.Linked.{first_or, items};
+    ghost use Rattle.vt_nodes.specs.inside.Lines.{lines_of, StandInRow, ArePassed};
 
     ghost Value = { List (List T) × List (List T) };
 
@@ -150,8 +150,8 @@ pub struct Passed<T> {
 
 impl<T> Model for Passed<T> {
     ghost use Rattle.std.specs.Prelude.{◌++◌, List, map};
-    ghost use Rattle.vt_nodes.specs.Linked.{items};
-    ghost use Rattle.vt_nodes.specs.Lines.{lines_of, ArePassed};
+    ghost use Rattle.vt_nodes.specs.inside.Linked.{items};
+    ghost use Rattle.vt_nodes.specs.inside.Lines.{lines_of, ArePassed};
 
     ghost Value = { List (List T) };
 

@@ -1,8 +1,8 @@
 //! A position in a trail.
 
 ghost use Rattle.std.specs.Prelude.{◌≡◌, [], ◌∷◌, ◌++◌, take, MatchOption};
-ghost use Rattle.vt_nodes.specs.First.{before_first, from_first, first_fails};
-ghost use Rattle.vt_nodes.specs.Linked.{advanced};
+ghost use Rattle.vt_nodes.specs.inside.First.{before_first, from_first, first_fails};
+ghost use Rattle.vt_nodes.specs.inside.Linked.{advanced};
 
 use crate::blocks::Blocks;
 use crate::link::Link;
@@ -24,7 +24,7 @@ pub(crate) struct Path<T> {
 
 impl<T> Model for Path<T> {
     ghost use Rattle.std.specs.Prelude.{List};
-    ghost use Rattle.vt_nodes.specs.Linked.{items, IsPath};
+    ghost use Rattle.vt_nodes.specs.inside.Linked.{items, IsPath};
 
     ghost Value = { List T × List T };
 
@@ -137,7 +137,7 @@ pub struct Beginning<T> {
 
 impl<T> Model for Beginning<T> {
     ghost use Rattle.std.specs.Prelude.{List};
-    ghost use Rattle.vt_nodes.specs.Linked.{items, IsBeginning};
+    ghost use Rattle.vt_nodes.specs.inside.Linked.{items, IsBeginning};
 
     ghost Value = { List T };
 

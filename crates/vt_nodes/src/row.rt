@@ -2,7 +2,7 @@
 
 ghost use Rattle.std.specs.Prelude.{◌≡◌, ◌≢◌, ◌↔◌, [], ◌∷◌, MatchOption, IfNone, IfSome, IsTrue};
 ghost use Rattle.std.specs.Option.{option_copied};
-ghost use Rattle.vt_nodes.specs.Lines.{first_item};
+ghost use Rattle.vt_nodes.specs.inside.Lines.{first_item};
 
 use crate::blocks::Blocks;
 use crate::link::Link;
@@ -27,8 +27,8 @@ pub struct Row<T> {
 
 impl<T> Model for Row<T> {
     ghost use Rattle.std.specs.Prelude.{◌≡◌, List, None, map};
-    ghost use Rattle.vt_nodes.specs.Linked.{first_or, items};
-    ghost use Rattle.vt_nodes.specs.Lines.{lines_of, StandInRow};
+    ghost use Rattle.vt_nodes.specs.inside.Linked.{first_or, items};
+    ghost use Rattle.vt_nodes.specs.inside.Lines.{lines_of, StandInRow};
 
     ghost Value = { List (List T) };
 

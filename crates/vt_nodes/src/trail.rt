@@ -24,7 +24,7 @@ pub struct Trail<T> {
 
 impl<T> Model for Trail<T> {
     ghost use Rattle.std.specs.Prelude.{◌≡◌, List, None};
-    ghost use Rattle.vt_nodes.specs.Linked.{first_or, items, LeadOn};
+    ghost use Rattle.vt_nodes.specs.inside.Linked.{first_or, items, LeadOn};
 
     ghost Value = { List T };
 

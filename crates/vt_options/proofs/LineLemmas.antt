@@ -6,7 +6,7 @@ use Rattle.std.proofs.lemmas.List.Sums.{fold-append}
 use Rattle.clap.specs.Walk.{is_early_multiple}
 use Rattle.clap.specs.Simple.{Shape, new_shape, filled, filled_from, help_rule, is_in_order, with_index}
 use Rattle.clap.specs.Words.{App, Rule, Text, is_simple, is_simple_and_free, new_app, with_rule, with_subcommand}
-use Rattle.vt_options.specs.Line.{UsedOption, option_rule, with_options, program_app}
+use Rattle.vt_options.specs.promise.Line.{UsedOption, option_rule, with_options, program_app}
 
 -- ---- a command with options
 

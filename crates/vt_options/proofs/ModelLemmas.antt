@@ -7,11 +7,12 @@ use Rattle.std.proofs.lemmas.List.{get_or_past, take_more, drop_more, length-map
 use Rattle.clap.specs.Words.{Text}
 use Rattle.vt_key.specs.declared.fault.Fault.{Fault}
 use Rattle.vt_key.specs.declared.fault.Fault.TheVariants.{Memory, NotLawful, Busy, Closed, Exhausted, TurnsSpent, BadOption, BadStep, Output}
-use Rattle.vt_key.specs.Faults.{fault_number, option_named}
+use Rattle.vt_key.specs.promise.Faults.{fault_number, option_named}
 use Rattle.vt_options.specs.declared.own.ModelOptions.{ModelOptions}
-use Rattle.vt_options.specs.Line.{UsedOption, once}
-use Rattle.vt_options.specs.Own.{AreInRange, GiveValues, NamesBad, first_bad_in, index_from, model_names, number_table, table_names, tables_of}
-use Rattle.vt_options.specs.Table.{Given, NumberOption, first_bad_of, first_name}
+use Rattle.vt_options.specs.promise.Line.{UsedOption, once}
+use Rattle.vt_options.specs.promise.Own.{AreInRange, GiveValues, first_bad_in, index_from, number_table, table_names}
+use Rattle.vt_options.specs.inside.Own.{NamesBad, model_names, tables_of}
+use Rattle.vt_options.specs.promise.Table.{Given, NumberOption, first_bad_of, first_name}
 use Rattle.vt_options.proofs.OwnLemmas.{only}
 
 -- ---- the index of a name

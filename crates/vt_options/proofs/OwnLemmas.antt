@@ -7,15 +7,17 @@ use Rattle.std.proofs.lemmas.Slice.Zip.{all_zipped_more}
 use Rattle.clap.specs.Words.{Text}
 use Rattle.vt_key.specs.declared.fault.Fault.{Fault}
 use Rattle.vt_key.specs.declared.fault.Fault.TheVariants.{Memory, BadOption}
-use Rattle.vt_model.specs.Settings.{is_between}
+use Rattle.vt_model.specs.promise.Settings.{is_between}
 use Rattle.vt_options.specs.declared.choices.RunSettings.{RunSettings}
 use Rattle.vt_options.specs.declared.choices.ReplaySettings.{ReplaySettings}
 use Rattle.vt_options.specs.declared.own.OwnOption.{OwnOption}
 use Rattle.vt_options.specs.declared.programs.ProgramChoice.{ProgramChoice}
-use Rattle.vt_options.specs.Line.{given_by, texts_by}
-use Rattle.vt_options.specs.Requests.{AreBy, IsRefusedByOf}
-use Rattle.vt_options.specs.Table.{Given, NumberOption, bad, bad_number, first_name, first_bad_of, value_in}
-use Rattle.vt_options.specs.Own.{AreInRange, AreWithin, GiveRun, GiveReplay, GiveValues, Models, NamesBad, app_for, first_bad_of_run, first_bad_of_replay, line_for, number_option, number_table}
+use Rattle.vt_options.specs.promise.Line.{given_by, texts_by}
+use Rattle.vt_options.specs.promise.Requests.{AreBy}
+use Rattle.vt_options.specs.inside.Requests.{IsRefusedByOf}
+use Rattle.vt_options.specs.promise.Table.{Given, NumberOption, bad, bad_number, first_name, first_bad_of, value_in}
+use Rattle.vt_options.specs.promise.Own.{AreInRange, AreWithin, GiveRun, GiveReplay, GiveValues, Models, app_for, first_bad_of_run, first_bad_of_replay, line_for, number_option, number_table}
+use Rattle.vt_options.specs.inside.Own.{NamesBad}
 use Rattle.vt_options.proofs.RequestLemmas as requests
 
 -- each element passes a test that all pass

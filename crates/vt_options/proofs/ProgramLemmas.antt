@@ -4,8 +4,8 @@ use Rattle.std.proofs.lemmas.List.{take_more, drop_more, map-append, take-append
 use Rattle.std.specs.Borrow.{Bor}
 use Rattle.clap.specs.Words.{Text}
 use Rattle.vt_options.specs.declared.programs.Assignment.{Assignment}
-use Rattle.vt_options.specs.Table.{bad, first_name}
-use Rattle.vt_options.specs.Programs.{SetNumbers, assignment_said, bad_sets, pair_of}
+use Rattle.vt_options.specs.promise.Table.{bad, first_name}
+use Rattle.vt_options.specs.promise.Programs.{SetNumbers, assignment_said, bad_sets, pair_of}
 use Rattle.vt_options.proofs.OwnLemmas.{only}
 
 abbrev pub now_of : Bor Text → Text

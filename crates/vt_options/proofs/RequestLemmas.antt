@@ -8,9 +8,11 @@ use Rattle.clap.specs.declared.parser.matches.ArgMatches.TheViews.{out-ArgMatche
 use Rattle.clap.proofs.WalkLemmas.{first_value-rows, raw_values-rows}
 use Rattle.vt_key.specs.declared.fault.Fault.{Fault}
 use Rattle.vt_key.specs.declared.fault.Fault.TheVariants.{Memory, NotLawful, Busy, Closed, Exhausted, TurnsSpent, BadOption, BadStep, Output}
-use Rattle.vt_key.specs.Faults.{fault_number, option_named}
-use Rattle.vt_options.specs.Line.{given_by, subcommand_by, texts_by, texts_in}
-use Rattle.vt_options.specs.Requests.{AreBy, HasBadOptionOf, IsParserRefusal, IsRefusedByOf, Line}
+use Rattle.vt_key.specs.promise.Faults.{fault_number, option_named}
+use Rattle.vt_options.specs.promise.Line.{given_by, subcommand_by, texts_by}
+use Rattle.vt_options.specs.inside.Line.{texts_in}
+use Rattle.vt_options.specs.promise.Requests.{AreBy, HasBadOptionOf, Line}
+use Rattle.vt_options.specs.inside.Requests.{IsParserRefusal, IsRefusedByOf}
 
 -- the name that a parse met is that of its rows
 pub name_of_rows : (m : ArgMatches) → option_map (λ s. s.0) (subcommand_rows_of m) ≡ subcommand_name_of m

@@ -6,7 +6,7 @@ use Rattle.std.specs.Char.Escape.{IsEscapeDebug}
 use Rattle.std.proofs.lemmas.List.{append-nil, length-append}
 use Rattle.std.proofs.lemmas.Str.{encodes-append}
 use Rattle.clap.specs.Words.{Text}
-use Rattle.vt_options.specs.Shown.{IsWrittenAs, IsShownIn}
+use Rattle.vt_options.specs.inside.Shown.{IsWrittenAs, IsShownIn}
 
 -- ---- one character
 

@@ -5,7 +5,7 @@ use Rattle.std.specs.Str.{bytes_eq}
 use Rattle.std.proofs.lemmas.List.{take_more, length-map, map-append, get_or-map}
 use Rattle.std.proofs.lemmas.List.Folds.{list_any_at, list_any-append}
 use Rattle.clap.specs.Words.{Text}
-use Rattle.vt_options.specs.Taken.{is_among}
+use Rattle.vt_options.specs.inside.Taken.{is_among}
 
 module _ {X : Type 0} (name_of : X → Text) (name : Text) (xs : List X) (i : ℕ) (d : X) (h : i < length xs) where
   -- one of them is the name

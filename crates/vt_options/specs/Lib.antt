@@ -1,12 +1,2 @@
-pub mod Line
-pub mod Table
-pub mod Settings
-pub mod Programs
-pub mod Requests
-pub mod Own
-pub mod Asked
-pub mod Tasks
-pub mod Taken
-pub mod Shown
-pub mod Hints
-pub mod Processes
+pub mod promise
+pub mod inside

@@ -2,10 +2,12 @@
 
 ghost use Rattle.std.specs.Prelude.{◌≡◌, ◌++◌, [], List, IfOk, IfErr, codes, false, map};
 ghost use Rattle.clap.specs.Words.{Text, fault_of, subcommand_of, subcommand_rows_of, first_value, found_of, HasKind};
-ghost use Rattle.vt_options.specs.Line.{helps_of, names_of, once, options_of, texts_in};
-ghost use Rattle.vt_options.specs.Own.{AllHaveDefaults, GiveRun, GiveReplay, NamesBad, models_of, number_table, table_names, tables_of, naming_names, app_for, line_for, printing_options, program_options, run_options, replay_options, first_bad_of_run, first_bad_of_replay};
-ghost use Rattle.vt_options.specs.Requests.{IsRefusedByOf};
-ghost use Rattle.vt_options.specs.Asked.{IsAsked};
+ghost use Rattle.vt_options.specs.promise.Line.{once};
+ghost use Rattle.vt_options.specs.inside.Line.{helps_of, names_of, options_of, texts_in};
+ghost use Rattle.vt_options.specs.promise.Own.{GiveRun, GiveReplay, number_table, table_names, naming_names, app_for, line_for, printing_options, program_options, run_options, replay_options, first_bad_of_run, first_bad_of_replay};
+ghost use Rattle.vt_options.specs.inside.Own.{AllHaveDefaults, NamesBad, models_of, tables_of};
+ghost use Rattle.vt_options.specs.inside.Requests.{IsRefusedByOf};
+ghost use Rattle.vt_options.specs.inside.Asked.{IsAsked};
 
 use crate::line::{LineOption, ProgramTexts, Uses, matches_in};
 use crate::models::{model_option, model_values};

@@ -50,7 +50,8 @@ pub enum Task {
 
 impl Task {
     ghost use Rattle.std.specs.Prelude.{◌≡◌};
-    ghost use Rattle.vt_options.specs.Tasks.{task_config, with_config};
+    ghost use Rattle.vt_options.specs.promise.Tasks.{task_config};
+    ghost use Rattle.vt_options.specs.inside.Tasks.{with_config};
 
     /// The config of its settings.
     pub fn config(&self) -> Config

@@ -3,11 +3,12 @@
 
 ghost use Rattle.std.specs.Prelude.{◌≡◌, ◌⊎◌, Some, IfSome, codes, map, string_bytes};
 ghost use Rattle.clap.specs.Words.{Text, first_value, found_of};
-ghost use Rattle.vt_options.specs.Line.{texts_in};
-ghost use Rattle.vt_options.specs.Programs.{SetsNothing};
-ghost use Rattle.vt_options.specs.Own.{AllHaveDefaults, line_for, models_of};
-ghost use Rattle.vt_options.specs.Hints.{IsHintOn, TellsTurns, finals_need, more_turns, no_command, option_takes, parser_says};
-ghost use Rattle.vt_options.specs.Shown.{IsShownSentence, IsShownWord};
+ghost use Rattle.vt_options.specs.inside.Line.{texts_in};
+ghost use Rattle.vt_options.specs.inside.Programs.{SetsNothing};
+ghost use Rattle.vt_options.specs.promise.Own.{line_for};
+ghost use Rattle.vt_options.specs.inside.Own.{AllHaveDefaults, models_of};
+ghost use Rattle.vt_options.specs.inside.Hints.{IsHintOn, TellsTurns, finals_need, more_turns, no_command, option_takes, parser_says};
+ghost use Rattle.vt_options.specs.inside.Shown.{IsShownSentence, IsShownWord};
 
 use crate::asking::{Request, read_request, table_matches};
 use crate::choices::Task;

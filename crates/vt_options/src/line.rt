@@ -3,7 +3,8 @@
 ghost use Rattle.std.specs.Prelude.{◌≡◌, IfOk, IfErr, map, false, []};
 ghost use Rattle.clap.specs.Words.{app_of, new_app, with_subcommand, rule_of, subcommand_of, subcommand_rows_of, fault_of, HasKind};
 ghost use Rattle.clap.specs.declared.builder.command.Command.TheViews.{out-Command};
-ghost use Rattle.vt_options.specs.Line.{option_of, option_rule, options_of, with_options, program_app};
+ghost use Rattle.vt_options.specs.promise.Line.{option_rule, with_options, program_app};
+ghost use Rattle.vt_options.specs.inside.Line.{option_of, options_of};
 
 use crate::texts::OptionText;
 use clap::{Arg, ArgAction, ArgMatches, Command, Error};

@@ -2,8 +2,9 @@
 
 ghost use Rattle.std.specs.Prelude.{◌≡◌, [], None, Some, IfOk, IfErr, get_or};
 ghost use Rattle.clap.specs.Words.{first_value, found_of};
-ghost use Rattle.vt_key.specs.Faults.{fault_number, option_named};
-ghost use Rattle.vt_options.specs.Own.{AllHaveDefaults, AreInRange, GiveValues, NamesBad, bad_naming, chosen_by, first_bad_in, index_from, model_names, models_of, tables_of};
+ghost use Rattle.vt_key.specs.promise.Faults.{fault_number, option_named};
+ghost use Rattle.vt_options.specs.promise.Own.{AreInRange, GiveValues, bad_naming, chosen_by, first_bad_in, index_from};
+ghost use Rattle.vt_options.specs.inside.Own.{AllHaveDefaults, NamesBad, model_names, models_of, tables_of};
 
 use crate::own::{ModelOptions, ModelTable, own_options};
 use clap::ArgMatches;

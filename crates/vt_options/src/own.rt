@@ -2,8 +2,9 @@
 
 ghost use Rattle.std.specs.Prelude.{◌≡◌, None, IfOk, IfErr, length};
 ghost use Rattle.clap.specs.Words.{first_value, found_of};
-ghost use Rattle.vt_options.specs.Table.{first_bad_of};
-ghost use Rattle.vt_options.specs.Own.{HaveDefaults, AreWithin, GiveValues, NamesBad, number_table};
+ghost use Rattle.vt_options.specs.promise.Table.{first_bad_of};
+ghost use Rattle.vt_options.specs.promise.Own.{HaveDefaults, AreWithin, GiveValues, number_table};
+ghost use Rattle.vt_options.specs.inside.Own.{NamesBad};
 
 use crate::programs::ProgramChoice;
 use crate::reading::small_option;

@@ -1,7 +1,7 @@
 //! The number of processes with which a model is run that fixes one.
 
 ghost use Rattle.std.specs.Prelude.{IfOk, IfErr};
-ghost use Rattle.vt_options.specs.Processes.{IsUnsettled, Settles};
+ghost use Rattle.vt_options.specs.promise.Processes.{IsUnsettled, Settles};
 
 use vt_key::MAX_PROCESSES;
 use vt_model::Config;

@@ -2,11 +2,13 @@
 
 ghost use Rattle.std.specs.Prelude.{◌≡◌, ℕ, List, None, Some, IfOk, IfErr, IfSome, codes, map, option_map};
 ghost use Rattle.clap.specs.Words.{first_value, found_of};
-ghost use Rattle.vt_key.specs.Faults.{fault_number, option_named};
-ghost use Rattle.vt_options.specs.Line.{texts_in};
-ghost use Rattle.vt_options.specs.Table.{lps, value_in};
-ghost use Rattle.vt_options.specs.Programs.{SetNumbers, SetsNothing, assignment_said, bad_sets, pair_of, value_given};
-ghost use Rattle.vt_options.specs.Own.{GiveProgram, NamesBad, bad_program, first_bad_of_program, models_of, naming_of};
+ghost use Rattle.vt_key.specs.promise.Faults.{fault_number, option_named};
+ghost use Rattle.vt_options.specs.inside.Line.{texts_in};
+ghost use Rattle.vt_options.specs.promise.Table.{lps, value_in};
+ghost use Rattle.vt_options.specs.promise.Programs.{SetNumbers, assignment_said, bad_sets, pair_of, value_given};
+ghost use Rattle.vt_options.specs.inside.Programs.{SetsNothing};
+ghost use Rattle.vt_options.specs.promise.Own.{GiveProgram, bad_program, first_bad_of_program};
+ghost use Rattle.vt_options.specs.inside.Own.{NamesBad, models_of, naming_of};
 
 use crate::limits::MAX_FUEL;
 use crate::own::ModelTable;

@@ -2,10 +2,10 @@
 
 ghost use Rattle.std.specs.Prelude.{◌≡◌, ◌≤◌, ◌<◌, ◌^◌, ℕ, List, Some, None, IfOk, IfErr, codes, true};
 ghost use Rattle.clap.specs.Words.{first_value, found_of};
-ghost use Rattle.vt_key.specs.Faults.{fault_number, option_named};
-ghost use Rattle.vt_model.specs.Settings.{is_between};
-ghost use Rattle.vt_options.specs.Table.{number_in, synch_in, version_in, finals_in, records_in, records_said, bad, first_bad_of, config_table};
-ghost use Rattle.vt_options.specs.Settings.{GiveConfig};
+ghost use Rattle.vt_key.specs.promise.Faults.{fault_number, option_named};
+ghost use Rattle.vt_model.specs.promise.Settings.{is_between};
+ghost use Rattle.vt_options.specs.promise.Table.{number_in, synch_in, version_in, finals_in, records_in, records_said, bad, first_bad_of, config_table};
+ghost use Rattle.vt_options.specs.promise.Settings.{GiveConfig};
 
 use crate::Synch;
 use clap::ArgMatches;

@@ -3,7 +3,8 @@
 ghost use Rattle.std.specs.Prelude.{◌≡◌, ◌⊎◌, List, IfOk, IfErr};
 ghost use Rattle.clap.specs.Values.{kind_of};
 ghost use Rattle.clap.specs.Words.{App, HasKind, Text, fault_of};
-ghost use Rattle.vt_options.specs.Requests.{AskHelpOf, IsParserRefusal};
+ghost use Rattle.vt_options.specs.promise.Requests.{AskHelpOf};
+ghost use Rattle.vt_options.specs.inside.Requests.{IsParserRefusal};
 
 use clap::Error;
 use clap::error::ErrorKind;

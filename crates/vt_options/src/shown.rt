@@ -2,7 +2,7 @@
 
 ghost use Rattle.std.specs.Prelude.{◌≡◌, ℕ, List, IfOk, IfSome, length, string_bytes};
 ghost use Rattle.std.specs.Str.{encode_utf8_all};
-ghost use Rattle.vt_options.specs.Shown.{IsShown, IsShownSentence, IsShownWord, IsWrittenAs};
+ghost use Rattle.vt_options.specs.inside.Shown.{IsShown, IsShownSentence, IsShownWord, IsWrittenAs};
 
 use std::alloc::{AllocError, Global};
 

@@ -1,8 +1,8 @@
 //! Options of a model whose names are taken.
 
 ghost use Rattle.std.specs.Prelude.{◌≡◌, option_map};
-ghost use Rattle.vt_options.specs.Line.{names_of};
-ghost use Rattle.vt_options.specs.Taken.{is_among, is_general, own_names, taken_in};
+ghost use Rattle.vt_options.specs.inside.Line.{names_of};
+ghost use Rattle.vt_options.specs.inside.Taken.{is_among, is_general, own_names, taken_in};
 
 use crate::own::OwnOption;
 use crate::texts::{EVERY_MODEL, OptionText};

@@ -7,14 +7,14 @@ use Rattle.std.proofs.lemmas.Bool.Decides.{eqb_tells, nat_tests}
 use Rattle.std.proofs.lemmas.List.{length-append, length-replicate, length-set}
 use Rattle.std.proofs.lemmas.List.Elements.{filter-append}
 use Rattle.std.specs.Option.{is_some}
-use Rattle.vt_key.specs.Times.{Time, earlier}
-use Rattle.vt_key.specs.Queues.{without_first}
+use Rattle.vt_key.specs.promise.Times.{Time, earlier}
+use Rattle.vt_key.specs.promise.Queues.{without_first}
 use Rattle.vt_key.specs.declared.letter.Letter.{Letter}
 use Rattle.vt_model.specs.declared.settings.Config.{Config}
-use Rattle.vt_steps.specs.Letters.{least_time}
-use Rattle.vt_steps.specs.PartSteps.{is_for}
+use Rattle.vt_steps.specs.promise.Letters.{least_time}
+use Rattle.vt_steps.specs.promise.PartSteps.{is_for}
 use Rattle.vt_steps.proofs.lists.Places.{all-written, get-replicate}
-use Rattle.vt_outbox.specs.Outbox.{HeldOutbox, IsSorted}
+use Rattle.vt_outbox.specs.inside.Outbox.{HeldOutbox, IsSorted}
 use Rattle.vt_outbox.proofs.PartingLemmas.{passes, fails}
 
 -- ---- the first that passes a test, and those that do not pass

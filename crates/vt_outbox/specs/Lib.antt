@@ -1,1 +1,1 @@
-pub mod Outbox
+pub mod inside

@@ -3,12 +3,12 @@
 ghost use Rattle.std.specs.Prelude.{◌≡◌, ℕ, ◌%◌, ◌^◌, ◌<◌, ◌≤◌, List as Items, [], ◌∷◌, ◌++◌, true, false, not, length, filter, find, IfOk, IfErr, IfSome, IfNone};
 ghost use Rattle.std.specs.List.{list_any};
 ghost use Rattle.std.specs.Option.{option_copied};
-ghost use Rattle.vt_key.specs.Queues.{without_first};
+ghost use Rattle.vt_key.specs.promise.Queues.{without_first};
 ghost use Rattle.vt_key.specs.declared.fault.Fault.TheVariants.{Memory};
 ghost use Rattle.vt_key.specs.declared.letter.Letter.{Letter as LetterValue};
-ghost use Rattle.vt_steps.specs.Letters.{least_time};
-ghost use Rattle.vt_steps.specs.PartSteps.{is_for};
-ghost use Rattle.vt_steps.specs.CellSteps.{may_send};
+ghost use Rattle.vt_steps.specs.promise.Letters.{least_time};
+ghost use Rattle.vt_steps.specs.promise.PartSteps.{is_for};
+ghost use Rattle.vt_steps.specs.promise.CellSteps.{may_send};
 
 use std::alloc::Global;
 use std::marker::Model;
@@ -34,7 +34,7 @@ pub struct Outbox<P: Copy> {
 }
 
 impl<P: Copy> Model for Outbox<P> {
-    ghost use Rattle.vt_outbox.specs.Outbox.{HeldOutbox, IsSorted};
+    ghost use Rattle.vt_outbox.specs.inside.Outbox.{HeldOutbox, IsSorted};
 
     ghost Value = { HeldOutbox P };
 

@@ -1,8 +1,8 @@
 -- How the draws go on from word to word.
 use Rattle.std.proofs.Common.{◌≡◌, ℕ, zero, suc, ◌+◌, ◌-◌, ◌<◌, ◌∙◌, true, false, if◌then◌else◌, refl, ap, arith}
-use Rattle.vt_stream.specs.Words.{Stream, word_of, moved}
+use Rattle.vt_stream.specs.inside.Words.{Stream, word_of, moved}
 use Rattle.vt_stream.proofs.DrawLemmas.{word_after, moved-moved}
-use Rattle.vt_parts.specs.Drawing.{happens, first_hit}
+use Rattle.vt_parts.specs.inside.Drawing.{happens, first_hit}
 
 -- it happens by this word
 pub hit_now : (words : ℕ → ℕ) (p q at left : ℕ) → 0 < left → happens (words at) p q ≡ true → first_hit words p q at left ≡ at

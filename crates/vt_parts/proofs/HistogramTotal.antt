@@ -2,9 +2,9 @@
 use Rattle.std.proofs.Common.{◌≡◌, ℕ, ◌+◌, ◌%◌, ◌^◌, ◌<◌, true, false, length, slice_index, nat_lt, if◌then◌else◌, refl, arith}
 use Rattle.std.proofs.lemmas.Bool.{ltb-true}
 use Rattle.std.proofs.lemmas.List.Sums.{sum_by-set}
-use Rattle.vt_model.specs.Counts.{one_more}
+use Rattle.vt_model.specs.promise.Counts.{one_more}
 use Rattle.vt_parts.specs.declared.histogram.Histogram.{Histogram}
-use Rattle.vt_parts.specs.Histogram.{IsHistogram, bin_of, with_bin, with_beyond, total, counted}
+use Rattle.vt_parts.specs.inside.Histogram.{IsHistogram, bin_of, with_bin, with_beyond, total, counted}
 
 pub total_counted : {N : ℕ} (h : Histogram N) (value : ℕ) → IsHistogram h → total (counted h value) ≡ (total h + 1) % 2 ^ 64
 total_counted {N} h value is =

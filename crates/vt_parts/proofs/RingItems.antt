@@ -5,8 +5,8 @@ use Rattle.std.proofs.lemmas.List.{same_lists, get_or_append_left, get_or-append
 use Rattle.std.proofs.lemmas.Option.{slice_get-get_or}
 use Rattle.std.proofs.lemmas.Grind.{common_steps}
 use Rattle.vt_parts.specs.declared.ring.Ring.{Ring}
-use Rattle.vt_parts.specs.Ring.{IsRing, round, held, is_empty, is_full, pushed, first, popped}
-use Rattle.vt_parts.specs.RingLaws.{round_is, round_below, some_within}
+use Rattle.vt_parts.specs.inside.Ring.{IsRing, round, held, is_empty, is_full, pushed, first, popped}
+use Rattle.vt_parts.specs.inside.RingLaws.{round_is, round_below, some_within}
 
 -- the n items from place k on, round the end
 abbrev pub window : {T : Type 0} → ℕ → ℕ → List T → List T

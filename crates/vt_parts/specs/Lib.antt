@@ -1,8 +1,1 @@
-pub mod Ring
-pub mod RingLaws
-pub mod Histogram
-pub mod HistogramLaws
-pub mod Drawing
-pub mod DrawingLaws
-pub mod Exponential
-pub mod Sending
+pub mod inside

@@ -3,9 +3,9 @@
 ghost use Rattle.std.specs.Prelude.{◌≡◌, ◌+◌, ◌^◌, ◌<◌, ◌≤◌, length};
 ghost use Rattle.std.specs.List.{sum};
 ghost use Rattle.vt_model.specs.declared.limits.TheConstants.{MAX_DRAWS};
-ghost use Rattle.vt_model.specs.Drawn.{drawn_in, stream_in, IsSameSource};
-ghost use Rattle.vt_stream.specs.Words.{word_of, moved};
-ghost use Rattle.vt_parts.specs.Drawing.{happens, chosen, weight_drawn, failures, tries};
+ghost use Rattle.vt_model.specs.inside.Drawn.{drawn_in, stream_in, IsSameSource};
+ghost use Rattle.vt_stream.specs.inside.Words.{word_of, moved};
+ghost use Rattle.vt_parts.specs.inside.Drawing.{happens, chosen, weight_drawn, failures, tries};
 
 use vt_model::Draws;
 

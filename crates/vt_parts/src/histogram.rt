@@ -1,7 +1,7 @@
 //! Counts of values by their size.
 
 ghost use Rattle.std.specs.Prelude.{◌≡◌, ◌+◌, ◌%◌, ◌^◌, ◌<◌, ℕ};
-ghost use Rattle.vt_parts.specs.Histogram.{IsHistogram, empty_histogram, counted, uncounted, total, count_in, count_beyond};
+ghost use Rattle.vt_parts.specs.inside.Histogram.{IsHistogram, empty_histogram, counted, uncounted, total, count_in, count_beyond};
 
 /// How many values fell into each of `N` bins of one width, and how many lay beyond them. Its counts are modulo 2^64.
 #[derive(Debug, Clone, Copy, PartialEq, Eq)]

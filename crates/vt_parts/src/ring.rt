@@ -1,7 +1,7 @@
 //! A finite first-in-first-out queue that can go back.
 
 ghost use Rattle.std.specs.Prelude.{◌≡◌, ◌<◌, [], ◌∷◌, ◌++◌, length, drop, slice_get, is_none, if◌then◌else◌};
-ghost use Rattle.vt_parts.specs.Ring.{IsRing, held, item_count, empty_ring, place, written, is_empty, is_full, pushed, push_answer, unpushed, first, popped, unpopped};
+ghost use Rattle.vt_parts.specs.inside.Ring.{IsRing, held, item_count, empty_ring, place, written, is_empty, is_full, pushed, push_answer, unpushed, first, popped, unpopped};
 
 /// A first-in-first-out queue of at most `N` items, of fixed size. Each call that changes it has an inverse, which takes what the
 /// call answered. Two rings are equal where their items stand in the same places and the other places hold the same values.

@@ -1,10 +1,10 @@
 //! Sends to several processes.
 
 ghost use Rattle.std.specs.Prelude.{◌≡◌, ◌+◌, ◌^◌, ◌<◌, ◌≤◌, [], length, take};
-ghost use Rattle.vt_key.specs.Times.{TimeBefore, at, ticks_of};
+ghost use Rattle.vt_key.specs.promise.Times.{TimeBefore, at, ticks_of};
 ghost use Rattle.vt_model.specs.declared.limits.TheConstants.{MAX_SENDS};
-ghost use Rattle.vt_model.specs.Sends.{with_requests};
-ghost use Rattle.vt_parts.specs.Sending.{entry_sends};
+ghost use Rattle.vt_model.specs.inside.Sends.{with_requests};
+ghost use Rattle.vt_parts.specs.inside.Sending.{entry_sends};
 ghost use prog.Memory.{size, align};
 ghost use denote.Memory.{lone};
 

@@ -2,7 +2,7 @@
 use Rattle.std.proofs.Common.{◌≡◌, suc, ◌-◌, List, [], ◌∷◌, ◌++◌, Option, Some, None, MatchOption, slice_get, length, refl, sym, ap, ◌∙◌, arith}
 use Rattle.std.specs.List.{last_or}
 use Rattle.vt_past.specs.declared.event.PastEvent.{PastEvent}
-use Rattle.vt_past.specs.Events.{rank_of_last, last_rank}
+use Rattle.vt_past.specs.inside.Events.{rank_of_last, last_rank}
 
 -- the last of a list, as the list tells it by its length
 pub last-at : {X : Type 0} (xs : List X) → last_or None xs ≡ slice_get xs (length xs - 1)

@@ -2,7 +2,7 @@
 
 ghost use Rattle.std.specs.Prelude.{◌≡◌, ◌-◌, ◌%◌, ◌^◌, [], ◌∷◌, ◌++◌, length, slice_get, MatchOption};
 ghost use Rattle.std.specs.Option.{option_copied};
-ghost use Rattle.vt_past.specs.Events.{last_rank};
+ghost use Rattle.vt_past.specs.inside.Events.{last_rank};
 
 use crate::event::PastEvent;
 use std::alloc::Global;
@@ -22,7 +22,7 @@ pub struct Past<P: Copy, K: Copy> {
 impl<P: Copy, K: Copy> Model for Past<P, K> {
     ghost use Rattle.std.specs.Prelude.{List as Events, ◌≡◌};
     ghost use Rattle.vt_past.specs.declared.event.PastEvent.{PastEvent};
-    ghost use Rattle.vt_past.specs.Events.{last_rank};
+    ghost use Rattle.vt_past.specs.inside.Events.{last_rank};
 
     ghost Value = { Events (PastEvent P K) };
 

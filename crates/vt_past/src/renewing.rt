@@ -2,7 +2,7 @@
 
 ghost use Rattle.std.specs.Prelude.{◌≡◌, ◌≤◌, length};
 ghost use Rattle.vt_model.specs.declared.limits.TheConstants.{MAX_RECORDS};
-ghost use Rattle.vt_past.specs.Events.{past_event, undo_entry_of, left_event};
+ghost use Rattle.vt_past.specs.inside.Events.{past_event, undo_entry_of, left_event};
 
 use crate::event::{PastEvent, UndoEntry};
 use crate::records::Records;

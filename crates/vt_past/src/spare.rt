@@ -3,8 +3,8 @@
 ghost use Rattle.std.specs.Prelude.{◌≡◌, ◌+◌, ◌-◌, ◌≤◌, [], length, IfOk, IfErr, IfSome, IfNone};
 ghost use Rattle.std.specs.List.{sum_by};
 ghost use Rattle.vt_model.specs.declared.limits.TheConstants.{MAX_RECORDS};
-ghost use Rattle.vt_past.specs.Kept.{GaveEvent, TookEvent, one_if_some, held_by};
-ghost use Rattle.vt_past.specs.Events.{past_event, undo_entry_of};
+ghost use Rattle.vt_past.specs.inside.Kept.{GaveEvent, TookEvent, one_if_some, held_by};
+ghost use Rattle.vt_past.specs.inside.Events.{past_event, undo_entry_of};
 
 use crate::event::{PastEvent, UndoEntry};
 use crate::past::Past;
@@ -42,7 +42,7 @@ pub struct Spare<P: Copy, K: Copy> {
 impl<P: Copy, K: Copy> Model for Spare<P, K> {
     ghost use Rattle.std.specs.Prelude.{◌+◌, length};
     ghost use Rattle.std.specs.List.{sum_by};
-    ghost use Rattle.vt_past.specs.Kept.{KeptNodes, one_if_some, held_by, held_if_some};
+    ghost use Rattle.vt_past.specs.inside.Kept.{KeptNodes, one_if_some, held_by, held_if_some};
 
     ghost Value = { KeptNodes };
 

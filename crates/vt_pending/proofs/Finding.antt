@@ -2,7 +2,7 @@
 use Rattle.std.proofs.Common.{Bool, true, false, ◌||◌, if◌then◌else◌, ◌≡◌, refl, ap}
 use Rattle.std.specs.Prelude.{List, [], ◌∷◌, Some, find, is_some}
 use Rattle.std.specs.List.{list_any}
-use Rattle.vt_key.specs.Queues.{without_first}
+use Rattle.vt_key.specs.promise.Queues.{without_first}
 
 module _ {X : Type 0} (test : X → Bool) where
   -- something is found where some item passes

@@ -1,12 +1,14 @@
 -- Letters in rising rank: what the first one that isn't before a rank tells of all.
 use Rattle.std.proofs.Common.{Bool, true, false, not, ◌||◌, if◌then◌else◌, ◌≡◌, refl, sym, ◌∙◌, ap, subst}
 use Rattle.std.specs.Prelude.{List, [], ◌∷◌, Some, filter, find}
-use Rattle.vt_key.specs.Order.{RankBefore, rank_before, rank_same}
-use Rattle.vt_key.specs.Queues.{letter_rank, has_rank, holds_rank, AllAfter, IsRising}
+use Rattle.vt_key.specs.promise.Order.{rank_before, rank_same}
+use Rattle.vt_key.specs.inside.Order.{RankBefore}
+use Rattle.vt_key.specs.promise.Queues.{letter_rank, has_rank}
+use Rattle.vt_key.specs.inside.Queues.{holds_rank, AllAfter, IsRising}
 use Rattle.vt_key.specs.declared.order.Rank.{Rank}
 use Rattle.vt_key.specs.declared.letter.Letter.{Letter}
 use Rattle.vt_key.proofs.OrderLemmas.{rank-irreflexive, rank_before-true, before-rank_before, rank_same-true}
-use Rattle.vt_pending.specs.Letters.{some_has_rank, is_reached}
+use Rattle.vt_pending.specs.inside.Letters.{some_has_rank, is_reached}
 use Rattle.vt_key.proofs.RisingLemmas.{first-false, second-false}
 
 -- a rank that is before another is not the same

@@ -2,16 +2,17 @@
 use Rattle.std.proofs.Common.{Bool, true, false, not, ◌||◌, if◌then◌else◌, ◌≡◌, refl, sym, ap, ◌∙◌, subst}
 use Rattle.std.specs.Prelude.{ℕ, List, [], ◌∷◌, ◌++◌, filter, find, slice_get, Option, Some, None}
 use Rattle.std.specs.Option.{unwrap_or}
-use Rattle.vt_key.specs.Order.{rank_before}
-use Rattle.vt_key.specs.Queues.{letter_rank, insert_letter, holds_rank, IsRising}
+use Rattle.vt_key.specs.promise.Order.{rank_before}
+use Rattle.vt_key.specs.promise.Queues.{letter_rank, insert_letter}
+use Rattle.vt_key.specs.inside.Queues.{holds_rank, IsRising}
 use Rattle.vt_key.specs.declared.order.Rank.{Rank}
 use Rattle.vt_key.specs.declared.letter.Letter.{Letter}
 use Rattle.vt_key.proofs.ListLemmas.{every-filter, rising-filter}
 use Rattle.vt_key.proofs.OrderLemmas.{rank_before-true, before-rank_before}
-use Rattle.vt_nodes.specs.First.{before_first, from_first}
-use Rattle.vt_nodes.specs.Lines.{begins_with}
-use Rattle.vt_pending.specs.Letters.{some_has_rank, is_reached}
-use Rattle.vt_pending.specs.Buckets.{bucket_of, in_bucket, not_in_bucket, list_at, without_list, is_place, first_holds, insert_here, insert_in, put_list, IsRow}
+use Rattle.vt_nodes.specs.inside.First.{before_first, from_first}
+use Rattle.vt_nodes.specs.inside.Lines.{begins_with}
+use Rattle.vt_pending.specs.inside.Letters.{some_has_rank, is_reached}
+use Rattle.vt_pending.specs.inside.Buckets.{bucket_of, in_bucket, not_in_bucket, list_at, without_list, is_place, first_holds, insert_here, insert_in, put_list, IsRow}
 use Rattle.vt_pending.proofs.Placing.{not-back, follows}
 use Rattle.vt_pending.proofs.Holding.{before-differs, none-holds, holds-first}
 use Rattle.vt_pending.proofs.Filters.{filter-within}

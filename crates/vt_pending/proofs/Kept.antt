@@ -3,12 +3,13 @@ use Rattle.std.proofs.Common.{Bool, true, false, not, ◌||◌, if◌then◌else
 use Rattle.std.specs.Prelude.{ℕ, ◌+◌, ◌<◌, nat_eq, IsBitSet, List, [], ◌∷◌, length, drop, filter, find, Some, None}
 use Rattle.std.specs.List.{list_any}
 use Rattle.std.proofs.lemmas.Option.{none-some}
-use Rattle.vt_key.specs.Order.{rank_before}
-use Rattle.vt_key.specs.Queues.{without_first, letter_rank, has_rank, insert_letter, holds_rank, IsRising}
+use Rattle.vt_key.specs.promise.Order.{rank_before}
+use Rattle.vt_key.specs.promise.Queues.{without_first, letter_rank, has_rank, insert_letter}
+use Rattle.vt_key.specs.inside.Queues.{holds_rank, IsRising}
 use Rattle.vt_key.specs.declared.order.Rank.{Rank}
 use Rattle.vt_key.specs.declared.letter.Letter.{Letter}
 use Rattle.vt_key.proofs.OrderLemmas.{rank_same-true}
-use Rattle.vt_pending.specs.Buckets.{bucket_of, in_bucket, not_in_bucket, list_at, without_list, insert_in, put_some, letters_of, IsRow, Buckets}
+use Rattle.vt_pending.specs.inside.Buckets.{bucket_of, in_bucket, not_in_bucket, list_at, without_list, insert_in, put_some, letters_of, IsRow, Buckets}
 use Rattle.vt_key.proofs.RisingLemmas.{IsRising-insert, IsRising-without}
 use Rattle.vt_pending.proofs.Filters.{find-filter, filter-insert, filter-insert-other, filter-without, filter-without-other}
 use Rattle.vt_pending.proofs.Rows.{own, in-own, same-number, number-same, row-list, row-insert, row-put, row-letters}

@@ -2,11 +2,12 @@
 use Rattle.std.proofs.Common.{true, false, ◌≡◌, refl, sym, ap, ◌∙◌, inl, inr, subst, arith}
 use Rattle.std.specs.Prelude.{ℕ, ◌<◌, ◌≤◌, ◌/◌, ◌%◌, nat_eq, nat_lt}
 use Rattle.std.proofs.lemmas.Bool.{eqb-false, ltb-true, ltb-false}
-use Rattle.vt_key.specs.Order.{RankBefore, rank_before, rank_same}
-use Rattle.vt_key.specs.Times.{ticks_of}
+use Rattle.vt_key.specs.promise.Order.{rank_before, rank_same}
+use Rattle.vt_key.specs.inside.Order.{RankBefore}
+use Rattle.vt_key.specs.promise.Times.{ticks_of}
 use Rattle.vt_key.specs.declared.order.Rank.{Rank}
 use Rattle.vt_key.proofs.OrderLemmas.{rank-irreflexive, rank-transitive, rank-total, rank_before-true, before-rank_before, same-rank_same}
-use Rattle.vt_pending.specs.Buckets.{bucket_of}
+use Rattle.vt_pending.specs.inside.Buckets.{bucket_of}
 
 pub not-back : (a b : Rank) → RankBefore a b → rank_before b a ≡ false
 not-back a b h = elim (rank_before b a) as (λ t. rank_before b a ≡ t → t ≡ false) [

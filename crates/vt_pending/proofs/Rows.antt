@@ -2,13 +2,14 @@
 use Rattle.std.proofs.Common.{Bool, true, false, not, if◌then◌else◌, ◌≡◌, ◌↔◌, refl, sym, ap, ◌∙◌, subst, arith}
 use Rattle.std.specs.Prelude.{ℕ, nat_eq, List, [], ◌∷◌, length, filter, slice_get}
 use Rattle.std.proofs.lemmas.Bool.{eqb-true, eq-eqb, not-true}
-use Rattle.vt_key.specs.Order.{rank_before}
-use Rattle.vt_key.specs.Queues.{letter_rank, has_rank, insert_letter, holds_rank, AllAfter, IsRising}
+use Rattle.vt_key.specs.promise.Order.{rank_before}
+use Rattle.vt_key.specs.promise.Queues.{letter_rank, has_rank, insert_letter}
+use Rattle.vt_key.specs.inside.Queues.{holds_rank, AllAfter, IsRising}
 use Rattle.vt_key.specs.declared.order.Rank.{Rank}
 use Rattle.vt_key.specs.declared.letter.Letter.{Letter}
 use Rattle.vt_key.proofs.ListLemmas.{every-filter, rising-filter}
 use Rattle.vt_key.proofs.OrderLemmas.{rank_before-true, before-rank_before}
-use Rattle.vt_pending.specs.Buckets.{bucket_of, in_bucket, not_in_bucket, some_in_bucket, list_at, without_list, insert_in, put_list, put_some, merged, letters_of, IsRow}
+use Rattle.vt_pending.specs.inside.Buckets.{bucket_of, in_bucket, not_in_bucket, some_in_bucket, list_at, without_list, insert_in, put_list, put_some, merged, letters_of, IsRow}
 use Rattle.vt_pending.proofs.Placing.{not-back, follows}
 use Rattle.vt_key.proofs.RisingLemmas.{first-false, second-false}
 use Rattle.vt_pending.proofs.Holding.{holds-filter}

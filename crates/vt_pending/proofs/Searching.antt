@@ -2,13 +2,15 @@
 -- begins behind what is found.
 use Rattle.std.proofs.Common.{Bool, true, false, not, if◌then◌else◌, ◌≡◌, refl, sym, ap, ◌∙◌, inl, inr, subst}
 use Rattle.std.specs.Prelude.{ℕ, List, [], ◌∷◌, filter, find, slice_get, Option, Some, None}
-use Rattle.vt_key.specs.Order.{RankBefore, rank_before}
-use Rattle.vt_key.specs.Queues.{letter_rank, AllAfter, IsRising}
+use Rattle.vt_key.specs.promise.Order.{rank_before}
+use Rattle.vt_key.specs.inside.Order.{RankBefore}
+use Rattle.vt_key.specs.promise.Queues.{letter_rank}
+use Rattle.vt_key.specs.inside.Queues.{AllAfter, IsRising}
 use Rattle.vt_key.specs.declared.order.Rank.{Rank}
 use Rattle.vt_key.specs.declared.letter.Letter.{Letter}
 use Rattle.vt_key.proofs.ListLemmas.{every-filter, rising-filter}
 use Rattle.vt_key.proofs.OrderLemmas.{rank-total, rank-transitive, rank_before-true, before-rank_before}
-use Rattle.vt_pending.specs.Buckets.{in_bucket, not_in_bucket, both_before, lesser, least_from, IsRow}
+use Rattle.vt_pending.specs.inside.Buckets.{in_bucket, not_in_bucket, both_before, lesser, least_from, IsRow}
 use Rattle.vt_pending.proofs.Placing.{not-back}
 use Rattle.vt_key.proofs.RisingLemmas.{AllAfter-before}
 use Rattle.vt_pending.proofs.Rows.{own, in-own}

@@ -1,2 +1,1 @@
-pub mod Buckets
-pub mod Letters
+pub mod inside

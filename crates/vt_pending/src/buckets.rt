@@ -2,10 +2,11 @@
 
 ghost use Rattle.std.specs.Prelude.{◌≡◌, ◌≢◌, ℕ, ◌<◌, ◌↔◌, [], None, false, true, find, nat_eq, IfErr, IfOk, IsBitSet};
 ghost use Rattle.std.specs.Option.{option_copied};
-ghost use Rattle.vt_key.specs.Order.{rank_before};
-ghost use Rattle.vt_key.specs.Queues.{insert_letter, holds_rank, IsRising};
-ghost use Rattle.vt_pending.specs.Letters.{some_has_rank, reached_has};
-ghost use Rattle.vt_pending.specs.Buckets.{bucket_of, some_in_bucket, both_before, lesser, least_from, list_at, without_list, first_holds, insert_here, insert_in, put_list, put_some, letters_of, IsRow};
+ghost use Rattle.vt_key.specs.promise.Order.{rank_before};
+ghost use Rattle.vt_key.specs.promise.Queues.{insert_letter};
+ghost use Rattle.vt_key.specs.inside.Queues.{holds_rank, IsRising};
+ghost use Rattle.vt_pending.specs.inside.Letters.{some_has_rank, reached_has};
+ghost use Rattle.vt_pending.specs.inside.Buckets.{bucket_of, some_in_bucket, both_before, lesser, least_from, list_at, without_list, first_holds, insert_here, insert_in, put_list, put_some, letters_of, IsRow};
 
 use crate::mask::Mask;
 use std::alloc::Global;
@@ -188,7 +189,7 @@ fn put_new<P: Copy>(
 struct Place(Rank);
 
 impl<P> Predicate<Letter<P>> for Place {
-    ghost use Rattle.vt_pending.specs.Buckets.{is_place};
+    ghost use Rattle.vt_pending.specs.inside.Buckets.{is_place};
 
     ghost passes = { λ t letter. is_place t.0 letter };
 
@@ -209,7 +210,7 @@ fn is_earlier(rank: &Rank, other: &Rank) -> bool
 pub(crate) struct NotBefore(pub(crate) Rank);
 
 impl<P> Predicate<Letter<P>> for NotBefore {
-    ghost use Rattle.vt_pending.specs.Letters.{is_reached};
+    ghost use Rattle.vt_pending.specs.inside.Letters.{is_reached};
 
     ghost passes = { λ t letter. is_reached t.0 letter };
 

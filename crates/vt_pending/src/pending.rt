@@ -3,9 +3,10 @@
 ghost use Rattle.std.specs.Prelude.{◌≡◌, ℕ, ◌<◌, ◌-◌, ◌%◌, ◌^◌, ◌↔◌, [], ◌∷◌, false, length, find, slice_get, MatchOption, IfOk, IfErr, IfNone, IsBitSet, IsNone, IsTrue, true};
 ghost use Rattle.std.specs.List.{list_any};
 ghost use Rattle.std.specs.Option.{option_copied};
-ghost use Rattle.vt_key.specs.Queues.{has_stamp, insert_letter, holds_rank, IsRising};
-ghost use Rattle.vt_pending.specs.Letters.{first_of_stamp, without_stamp};
-ghost use Rattle.vt_pending.specs.Buckets.{in_bucket};
+ghost use Rattle.vt_key.specs.promise.Queues.{has_stamp, insert_letter};
+ghost use Rattle.vt_key.specs.inside.Queues.{holds_rank, IsRising};
+ghost use Rattle.vt_pending.specs.inside.Letters.{first_of_stamp, without_stamp};
+ghost use Rattle.vt_pending.specs.inside.Buckets.{in_bucket};
 
 use crate::buckets::{
     NotBefore, bucket, find_in, find_least, has_rank, insert_in, put_back, take_marked,
@@ -35,7 +36,7 @@ pub struct Pending<P: Copy> {
 impl<P: Copy> Model for Pending<P> {
     ghost use Rattle.std.specs.Prelude.{List as Letters, length, ◌≡◌, ◌%◌, ◌^◌};
     ghost use Rattle.vt_key.specs.declared.letter.Letter.{Letter};
-    ghost use Rattle.vt_pending.specs.Buckets.{letters_of, Buckets};
+    ghost use Rattle.vt_pending.specs.inside.Buckets.{letters_of, Buckets};
 
     ghost Value = { Letters (Letter P) };
 
@@ -183,7 +184,7 @@ impl<P: Copy> Pending<P> {
 struct HasStamp(Stamp);
 
 impl<P> Predicate<Letter<P>> for HasStamp {
-    ghost use Rattle.vt_key.specs.Queues.{has_stamp};
+    ghost use Rattle.vt_key.specs.promise.Queues.{has_stamp};
 
     ghost passes = { λ t letter. has_stamp t.0 letter };
 

@@ -8,21 +8,21 @@ use Rattle.vt_key.specs.declared.limits.TheConstants.{MAX_COUNT}
 use Rattle.vt_key.specs.declared.letter.Letter.{Letter}
 use Rattle.vt_key.specs.declared.letter.Mail.{Mail}
 use Rattle.vt_model.specs.declared.settings.Config.{Config}
-use Rattle.vt_model.specs.Handler.{Handlers}
-use Rattle.vt_model.specs.Simulation.{Simulation, simulation_of}
+use Rattle.vt_model.specs.promise.Handler.{Handlers}
+use Rattle.vt_model.specs.promise.Simulation.{Simulation, simulation_of}
 use Rattle.vt_steps.specs.declared.step.Step.TheVariants.{Fetch}
 use Rattle.vt_steps.specs.declared.step.Reply.TheVariants.{Done}
-use Rattle.vt_steps.specs.Letters.{Counts, is_empty}
-use Rattle.vt_steps.specs.World.{Part}
-use Rattle.vt_steps.specs.PartSteps.{is_for, part_after_fetch}
-use Rattle.vt_steps.specs.CellSteps.{may_send}
-use Rattle.vt_steps.specs.Cells.{in_inbox}
-use Rattle.vt_kernel.specs.Held.{HeldWorker, StandsFor, AreCounted}
-use Rattle.vt_kernel.specs.Refusals.{PassesIn}
+use Rattle.vt_steps.specs.promise.Letters.{Counts, is_empty}
+use Rattle.vt_steps.specs.promise.World.{Part}
+use Rattle.vt_steps.specs.promise.PartSteps.{is_for, part_after_fetch}
+use Rattle.vt_steps.specs.promise.CellSteps.{may_send}
+use Rattle.vt_steps.specs.inside.Cells.{in_inbox}
+use Rattle.vt_kernel.specs.inside.Held.{HeldWorker, StandsFor, AreCounted}
+use Rattle.vt_kernel.specs.promise.Refusals.{PassesIn}
 use Rattle.vt_places.specs.declared.view.View.{View}
-use Rattle.vt_cells.specs.Calls.{Acts}
+use Rattle.vt_cells.specs.inside.Calls.{Acts}
 use Rattle.vt_cells.proofs.ActLemmas.{act-fetch}
-use Rattle.vt_places.specs.Calls.{Reaches}
+use Rattle.vt_places.specs.inside.Calls.{Reaches}
 
 module _ {S P : Type 0} (sim : Simulation S P) where
   -- ---- a send goes to a worker

@@ -4,32 +4,33 @@ use Rattle.std.specs.Option.{option_map}
 use Rattle.std.specs.List.{AllByRecursion}
 use Rattle.vt_key.specs.declared.fault.Fault.{Fault}
 use Rattle.vt_key.specs.declared.fault.Fault.TheVariants.{Memory, NotLawful, Closed, Exhausted}
-use Rattle.vt_key.specs.Times.{Time}
+use Rattle.vt_key.specs.promise.Times.{Time}
 use Rattle.vt_model.specs.declared.settings.Config.{Config}
-use Rattle.vt_model.specs.Handler.{Handlers}
-use Rattle.vt_model.specs.Histories.{IsLawful}
-use Rattle.vt_model.specs.Simulation.{Simulation, simulation_of}
+use Rattle.vt_model.specs.promise.Handler.{Handlers}
+use Rattle.vt_model.specs.promise.Histories.{IsLawful}
+use Rattle.vt_model.specs.promise.Simulation.{Simulation, simulation_of}
 use Rattle.vt_steps.specs.declared.step.Step.{Step}
 use Rattle.vt_steps.specs.declared.step.Step.TheVariants.{Cut, Report, Commit, Close}
 use Rattle.vt_steps.specs.declared.step.Reply.{Reply}
 use Rattle.vt_steps.specs.declared.step.Reply.TheVariants.{Done}
-use Rattle.vt_steps.specs.BoardSteps.{all_set, cut_board, may_report, with_report}
-use Rattle.vt_steps.specs.PartSteps.{part_after_cut, report_sent, report_got, report_least}
-use Rattle.vt_steps.specs.World.{Part, Board, Book, World, opening_world}
-use Rattle.vt_steps.specs.Cells.{board_cell, book_cell, CellName, Cell, on_board, in_book, content, worker_of, cell_of, Acted, left_alone, acted_at, acted_close, act, local_steps}
-use Rattle.vt_steps.specs.CellSteps.{CellEffect, cut, reported, report, commit, close}
-use Rattle.vt_steps.specs.Claims.{DoGuardsPass}
-use Rattle.vt_steps.specs.Laws.{IsAny}
-use Rattle.vt_steps.specs.Marked.{Marked, Made, Answered, answered, unmarked, own_steps_of, shown}
-use Rattle.vt_steps.specs.Next.{Outcome, next, run, reached}
+use Rattle.vt_steps.specs.promise.BoardSteps.{all_set, cut_board, may_report, with_report}
+use Rattle.vt_steps.specs.promise.PartSteps.{part_after_cut, report_sent, report_got, report_least}
+use Rattle.vt_steps.specs.promise.World.{Part, Board, Book, World, opening_world}
+use Rattle.vt_steps.specs.promise.Cells.{worker_of}
+use Rattle.vt_steps.specs.inside.Cells.{board_cell, book_cell, CellName, Cell, on_board, in_book, content, cell_of, Acted, left_alone, acted_at, acted_close, act, local_steps}
+use Rattle.vt_steps.specs.promise.CellSteps.{CellEffect, cut, reported, report, commit, close}
+use Rattle.vt_steps.specs.inside.Claims.{DoGuardsPass}
+use Rattle.vt_steps.specs.inside.Laws.{IsAny}
+use Rattle.vt_steps.specs.inside.Marked.{Marked, Made, Answered, answered, unmarked, own_steps_of, shown}
+use Rattle.vt_steps.specs.promise.Next.{Outcome, next, run, reached}
 use Rattle.vt_steps.proofs.steps.CellLemmas.{next-acts_on_one_cell}
 use Rattle.vt_steps.proofs.steps.Outcomes.{unless_closed-shut}
 use Rattle.vt_steps.proofs.book.HeadlineTheorem.{guards-pass}
 use Rattle.vt_steps.proofs.steps.LocalLeads.{local-does}
-use Rattle.vt_kernel.specs.Held.{HeldWorker}
+use Rattle.vt_kernel.specs.inside.Held.{HeldWorker}
 use Rattle.vt_places.specs.declared.view.View.{View}
-use Rattle.vt_places.specs.Slots.{cell_at}
-use Rattle.vt_places.specs.Calls.{Known, Closes, Reaches, Visited, IsRefusedByShown, IsCutRefusal, IsReportRefusal, IsCommitRefusal, IsCloseRefusal, IsRefusedAlone}
+use Rattle.vt_places.specs.inside.Slots.{cell_at}
+use Rattle.vt_places.specs.inside.Calls.{Known, Closes, Reaches, Visited, IsRefusedByShown, IsCutRefusal, IsReportRefusal, IsCommitRefusal, IsCloseRefusal, IsRefusedAlone}
 use Rattle.vt_places.proofs.OneList.{steps-own, steps-told}
 use Rattle.vt_steps.proofs.steps.MemoryLemmas.{run-append}
 use Rattle.vt_steps.proofs.time.Flags.{may-tells}

@@ -4,22 +4,22 @@ use Rattle.atomic_table.specs.Table.{rest}
 use Rattle.vt_key.specs.declared.fault.Fault.{Fault}
 use Rattle.vt_key.specs.declared.fault.Fault.TheVariants.{Busy, Closed}
 use Rattle.vt_model.specs.declared.settings.Config.{Config}
-use Rattle.vt_model.specs.Handler.{Handlers}
-use Rattle.vt_model.specs.Histories.{IsLawful}
-use Rattle.vt_model.specs.Simulation.{Simulation, simulation_of}
-use Rattle.vt_model.specs.Settings.{end_of}
-use Rattle.vt_steps.specs.World.{Book, book_floor, book_records}
-use Rattle.vt_steps.specs.Cells.{in_book}
-use Rattle.vt_steps.specs.Next.{reached}
-use Rattle.vt_steps.specs.Marked.{unmarked, answered, has_closed, shown}
+use Rattle.vt_model.specs.promise.Handler.{Handlers}
+use Rattle.vt_model.specs.promise.Histories.{IsLawful}
+use Rattle.vt_model.specs.promise.Simulation.{Simulation, simulation_of}
+use Rattle.vt_model.specs.promise.Settings.{end_of}
+use Rattle.vt_steps.specs.promise.World.{Book, book_floor, book_records}
+use Rattle.vt_steps.specs.inside.Cells.{in_book}
+use Rattle.vt_steps.specs.promise.Next.{reached}
+use Rattle.vt_steps.specs.inside.Marked.{unmarked, answered, has_closed, shown}
 use Rattle.vt_steps.proofs.marks.OwnCloses.{closed-known}
-use Rattle.vt_kernel.specs.Held.{HeldWorker}
-use Rattle.vt_book.specs.Books.{RunBook}
-use Rattle.vt_cells.specs.Calls.{AreOfOneWorld}
+use Rattle.vt_kernel.specs.inside.Held.{HeldWorker}
+use Rattle.vt_book.specs.inside.Books.{RunBook}
+use Rattle.vt_cells.specs.inside.Calls.{AreOfOneWorld}
 use Rattle.vt_places.specs.declared.slot.Slot.{Slot}
 use Rattle.vt_places.specs.declared.slot.Slot.TheVariants as slot
-use Rattle.vt_places.specs.Kept.{Sat}
-use Rattle.vt_places.specs.Calls.{Holding, TookThere, Reaches, AreRecordsShown}
+use Rattle.vt_places.specs.inside.Kept.{Sat}
+use Rattle.vt_places.specs.inside.Calls.{Holding, TookThere, Reaches, AreRecordsShown}
 use Rattle.vt_places.proofs.HeldLemmas.{same-book, found-is, found-right, puts}
 use Rattle.vt_places.proofs.RefusalLemmas.{marks, part-there, book-there, records-shown}
 

@@ -1,27 +1,27 @@
 -- From a claim to a release: what a seat holds in between, and that its place is the same.
 use Rattle.std.proofs.Common.{◌≡◌, ℕ, ◌<◌, List, [], ◌∷◌, sym, refl, ◌∙◌, ap, subst, Some, Result, Ok, Err, MatchResult, IfErr}
-use Rattle.vt_key.specs.Times.{Time}
+use Rattle.vt_key.specs.promise.Times.{Time}
 use Rattle.vt_key.specs.declared.fault.Fault.{Fault}
 use Rattle.vt_key.specs.declared.letter.Mail.{Mail}
 use Rattle.vt_model.specs.declared.settings.Config.{Config}
-use Rattle.vt_model.specs.Handler.{Handlers}
-use Rattle.vt_model.specs.Histories.{IsLawful}
-use Rattle.vt_model.specs.Simulation.{Simulation, simulation_of}
+use Rattle.vt_model.specs.promise.Handler.{Handlers}
+use Rattle.vt_model.specs.promise.Histories.{IsLawful}
+use Rattle.vt_model.specs.promise.Simulation.{Simulation, simulation_of}
 use Rattle.vt_steps.specs.declared.step.Step.{Step}
 use Rattle.vt_steps.specs.declared.step.Step.TheVariants.{Close}
 use Rattle.vt_steps.specs.declared.step.Reply.{Reply}
 use Rattle.vt_steps.specs.declared.step.Reply.TheVariants.{Done}
-use Rattle.vt_steps.specs.World.{Part, World}
-use Rattle.vt_steps.specs.Cells.{inbox_of, Cell, in_inbox, on_board, in_book, content}
-use Rattle.vt_steps.specs.Marked.{shown}
-use Rattle.vt_kernel.specs.Held.{HeldWorker}
+use Rattle.vt_steps.specs.promise.World.{Part, World}
+use Rattle.vt_steps.specs.inside.Cells.{inbox_of, Cell, in_inbox, on_board, in_book, content}
+use Rattle.vt_steps.specs.inside.Marked.{shown}
+use Rattle.vt_kernel.specs.inside.Held.{HeldWorker}
 use Rattle.vt_places.specs.declared.slot.Slot.{Slot}
 use Rattle.vt_places.specs.declared.view.View.{View}
 use Rattle.vt_places.specs.declared.place.Place.{Place}
-use Rattle.vt_places.specs.Hands.{Hand, holding}
-use Rattle.vt_places.specs.Slots.{held_in}
-use Rattle.vt_places.specs.Kept.{Sat, Rests}
-use Rattle.vt_places.specs.Calls.{Unvisited, Known, Took, TookThere, Holding, IsDoneAt, Closes, Visited, Stays, answer_as}
+use Rattle.vt_places.specs.inside.Hands.{Hand, holding}
+use Rattle.vt_places.specs.inside.Slots.{held_in}
+use Rattle.vt_places.specs.inside.Kept.{Sat, Rests}
+use Rattle.vt_places.specs.inside.Calls.{Unvisited, Known, Took, TookThere, Holding, IsDoneAt, Closes, Visited, Stays, answer_as}
 use Rattle.vt_places.proofs.Cells.{inbox-name, board-name, book-name, inbox-holds, board-holds, book-holds}
 
 -- a view that differs in its hand alone

@@ -3,10 +3,10 @@ use Rattle.std.proofs.Common.{◌≡◌, ◌≢◌, ◌⊎◌, inl, inr, ℕ, �
 use Rattle.std.specs.Option.{option_map}
 use Rattle.std.proofs.lemmas.Bool.Decides.{nat_tests}
 use Rattle.vt_key.specs.declared.letter.Mail.{Mail}
-use Rattle.vt_steps.specs.World.{Book, World}
-use Rattle.vt_steps.specs.Cells.{CellName, inbox_of, board_cell, book_cell, Cell, in_inbox, on_board, in_book, content}
-use Rattle.vt_places.specs.Hands.{Hand, empty_hand, holding}
-use Rattle.vt_places.specs.Slots.{cell_count, word_at, cell_at}
+use Rattle.vt_steps.specs.promise.World.{Book, World}
+use Rattle.vt_steps.specs.inside.Cells.{CellName, inbox_of, board_cell, book_cell, Cell, in_inbox, on_board, in_book, content}
+use Rattle.vt_places.specs.inside.Hands.{Hand, empty_hand, holding}
+use Rattle.vt_places.specs.inside.Slots.{cell_count, word_at, cell_at}
 
 -- ---- hands
 

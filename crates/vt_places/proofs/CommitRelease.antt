@@ -1,27 +1,27 @@
 -- The release of the book after a commit, and the place once its kernel has forgotten what was committed.
 use Rattle.std.proofs.Common.{◌≡◌, inr, ℕ, ◌<◌, List, [], ◌∷◌, ◌++◌, refl, sym, subst}
 use Rattle.atomic_table.specs.Table.{Allows}
-use Rattle.vt_key.specs.Times.{Time}
-use Rattle.vt_model.specs.Handler.{Handlers}
-use Rattle.vt_model.specs.Histories.{IsLawful}
+use Rattle.vt_key.specs.promise.Times.{Time}
+use Rattle.vt_model.specs.promise.Handler.{Handlers}
+use Rattle.vt_model.specs.promise.Histories.{IsLawful}
 use Rattle.vt_model.specs.declared.settings.Config.{Config}
-use Rattle.vt_model.specs.Simulation.{simulation_of}
-use Rattle.vt_model.specs.Settings.{end_of}
+use Rattle.vt_model.specs.promise.Simulation.{simulation_of}
+use Rattle.vt_model.specs.promise.Settings.{end_of}
 use Rattle.vt_steps.specs.declared.step.Step.TheVariants.{Commit}
 use Rattle.vt_steps.specs.declared.step.Reply.TheVariants.{Done}
-use Rattle.vt_steps.specs.World.{Part}
-use Rattle.vt_steps.specs.PartSteps.{part_after_commit}
-use Rattle.vt_steps.specs.Cells.{book_cell, Cell}
-use Rattle.vt_steps.specs.Marked.{Made, marked, made_done, Leads}
+use Rattle.vt_steps.specs.promise.World.{Part}
+use Rattle.vt_steps.specs.promise.PartSteps.{part_after_commit}
+use Rattle.vt_steps.specs.inside.Cells.{book_cell, Cell}
+use Rattle.vt_steps.specs.inside.Marked.{Made, marked, made_done, Leads}
 use Rattle.vt_steps.proofs.steps.LocalLeads.{leads}
-use Rattle.vt_kernel.specs.Held.{HeldWorker, StandsFor}
-use Rattle.vt_cells.specs.Calls.{CommitsTo}
+use Rattle.vt_kernel.specs.inside.Held.{HeldWorker, StandsFor}
+use Rattle.vt_cells.specs.inside.Calls.{CommitsTo}
 use Rattle.vt_cells.proofs.BookSteps.{commit-acts}
 use Rattle.vt_places.specs.declared.view.View.{View}
-use Rattle.vt_places.specs.Slots.{cell_count, word_at, home_word, cell_at}
-use Rattle.vt_places.specs.Kept.{Sat, IsTableRight}
-use Rattle.vt_places.specs.Calls.{Reaches, Visited, Holding, ShowsFloor}
-use Rattle.vt_places.specs.Commits.{Commits}
+use Rattle.vt_places.specs.inside.Slots.{cell_count, word_at, home_word, cell_at}
+use Rattle.vt_places.specs.inside.Kept.{Sat, IsTableRight}
+use Rattle.vt_places.specs.inside.Calls.{Reaches, Visited, Holding, ShowsFloor}
+use Rattle.vt_places.specs.inside.Commits.{Commits}
 use Rattle.vt_places.proofs.CallLemmas.{WithHand, done-held}
 use Rattle.vt_places.proofs.Growth.{grown-not}
 use Rattle.vt_places.proofs.Keeps.{releases}

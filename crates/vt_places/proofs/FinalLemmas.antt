@@ -3,24 +3,24 @@ use Rattle.std.proofs.Common.{◌≡◌, ℕ, List, ◌++◌, refl, sym, ◌∙�
 use Rattle.std.specs.List.{range_with_len}
 use Rattle.std.specs.Option.{option_map}
 use Rattle.std.specs.Prelude.{IfSome}
-use Rattle.vt_key.specs.Times.{TimeAtMost}
+use Rattle.vt_key.specs.promise.Times.{TimeAtMost}
 use Rattle.vt_model.specs.declared.settings.Config.{Config}
-use Rattle.vt_model.specs.Handler.{Handlers}
-use Rattle.vt_model.specs.Histories.{IsLawful}
-use Rattle.vt_model.specs.Settings.{end_of}
-use Rattle.vt_model.specs.Simulation.{Simulation, simulation_of}
+use Rattle.vt_model.specs.promise.Handler.{Handlers}
+use Rattle.vt_model.specs.promise.Histories.{IsLawful}
+use Rattle.vt_model.specs.promise.Settings.{end_of}
+use Rattle.vt_model.specs.promise.Simulation.{Simulation, simulation_of}
 use Rattle.vt_steps.specs.declared.step.Step.{Step}
-use Rattle.vt_steps.specs.Cells.{book_cell, in_book}
-use Rattle.vt_steps.specs.Finals.{final_value, worker_finals, part_values}
-use Rattle.vt_steps.specs.Marked.{unmarked, shown}
-use Rattle.vt_steps.specs.Next.{reached}
-use Rattle.vt_steps.specs.World.{World, opening_world, process_at, process_count}
+use Rattle.vt_steps.specs.inside.Cells.{book_cell, in_book}
+use Rattle.vt_steps.specs.inside.Finals.{final_value, worker_finals, part_values}
+use Rattle.vt_steps.specs.inside.Marked.{unmarked, shown}
+use Rattle.vt_steps.specs.promise.Next.{reached}
+use Rattle.vt_steps.specs.promise.World.{World, opening_world, process_at, process_count}
 use Rattle.vt_steps.proofs.history.FinalValues.{quiet-at_end, quiet-values}
 use Rattle.vt_steps.proofs.steps.LocalLeads.{local-does}
 use Rattle.vt_steps.proofs.lists.Places.{get-map, get-range}
-use Rattle.vt_kernel.specs.Held.{HeldWorker}
+use Rattle.vt_kernel.specs.inside.Held.{HeldWorker}
 use Rattle.vt_places.specs.declared.view.View.{View}
-use Rattle.vt_places.specs.Calls.{IsShown, Reaches}
+use Rattle.vt_places.specs.inside.Calls.{IsShown, Reaches}
 use Rattle.vt_steps.proofs.steps.MemoryLemmas.{run-append}
 
 module _ {S P K : Type 0} (handlers : Handlers S P K) (config : Config) (lawful : IsLawful (simulation_of handlers config)) where

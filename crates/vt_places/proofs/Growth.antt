@@ -3,11 +3,11 @@ use Rattle.std.proofs.Common.{◌≡◌, ℕ, List, [], ◌++◌, refl, sym, ◌
 use Rattle.std.proofs.lemmas.List.{append_assoc, append-nil}
 use Rattle.std.specs.List.{AllByRecursion}
 use Rattle.vt_steps.specs.declared.step.Step.{Step}
-use Rattle.vt_model.specs.Simulation.{Simulation}
-use Rattle.vt_steps.specs.World.{opening_world}
-use Rattle.vt_steps.specs.Marked.{Marked, Answered, marked, own_steps_of, shown}
+use Rattle.vt_model.specs.promise.Simulation.{Simulation}
+use Rattle.vt_steps.specs.promise.World.{opening_world}
+use Rattle.vt_steps.specs.inside.Marked.{Marked, Answered, marked, own_steps_of, shown}
 use Rattle.vt_steps.proofs.marks.MarkedRuns.{each-marked, own-append, own-others}
-use Rattle.vt_places.specs.Kept.{HasGrown}
+use Rattle.vt_places.specs.inside.Kept.{HasGrown}
 use Rattle.vt_key.proofs.ListLemmas.{every-append, every-weaker}
 
 -- what one worker has made, another hasn't

@@ -3,13 +3,13 @@ use Rattle.std.proofs.Common.{◌≡◌, ℕ, List, ◌∷◌, refl, sym, ◌∙
 use Rattle.atomic_table.specs.Table.{rest}
 use Rattle.vt_key.specs.declared.letter.Mail.{Mail}
 use Rattle.vt_model.specs.declared.settings.Config.{Config}
-use Rattle.vt_steps.specs.World.{Book as BookValue}
-use Rattle.vt_steps.specs.Cells.{Cell, in_inbox, on_board, in_book}
+use Rattle.vt_steps.specs.promise.World.{Book as BookValue}
+use Rattle.vt_steps.specs.inside.Cells.{Cell, in_inbox, on_board, in_book}
 use Rattle.vt_places.specs.declared.slot.Slot.{Slot}
 use Rattle.vt_places.specs.declared.slot.Slot.TheVariants.{Inbox, Board, Book}
-use Rattle.vt_places.specs.Slots.{held_in, IsSlotOf}
-use Rattle.vt_places.specs.Kept.{Sat}
-use Rattle.vt_places.specs.Calls.{Holding}
+use Rattle.vt_places.specs.inside.Slots.{held_in, IsSlotOf}
+use Rattle.vt_places.specs.inside.Kept.{Sat}
+use Rattle.vt_places.specs.inside.Calls.{Holding}
 
 module _ {P : Type 0} where
   -- the books of equal cells are equal

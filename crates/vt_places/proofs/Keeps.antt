@@ -9,23 +9,23 @@ use lib.ListN.{get_elem?}
 use lib.Seq.{set-get_or}
 use Rattle.atomic_table.specs.Table.{Act, keeps, takes, gives, Valid, carried_after, stepped, Allows, rest, put_back}
 use Rattle.atomic_table.proofs.Lists.{at_set, set_here, set_else, set_again}
-use Rattle.vt_key.specs.Times.{Time, TimeAtMost}
-use Rattle.vt_model.specs.Histories.{IsLawful}
+use Rattle.vt_key.specs.promise.Times.{Time, TimeAtMost}
+use Rattle.vt_model.specs.promise.Histories.{IsLawful}
 use Rattle.vt_model.specs.declared.settings.Config.{Config}
-use Rattle.vt_model.specs.Simulation.{Simulation}
+use Rattle.vt_model.specs.promise.Simulation.{Simulation}
 use Rattle.vt_steps.specs.declared.step.Step.{Step}
-use Rattle.vt_steps.specs.World.{Part, World, book_floor, opening_world}
-use Rattle.vt_steps.specs.Cells.{CellName, inbox_of, Cell, in_inbox, content}
-use Rattle.vt_steps.specs.Marked.{Marked, Made, answered, unmarked, marked, IsMarkedRight, own_steps_of, shown, DoesSo, Leads}
-use Rattle.vt_steps.specs.Next.{run}
+use Rattle.vt_steps.specs.promise.World.{Part, World, book_floor, opening_world}
+use Rattle.vt_steps.specs.inside.Cells.{CellName, inbox_of, Cell, in_inbox, content}
+use Rattle.vt_steps.specs.inside.Marked.{Marked, Made, answered, unmarked, marked, IsMarkedRight, own_steps_of, shown, DoesSo, Leads}
+use Rattle.vt_steps.specs.promise.Next.{run}
 use Rattle.vt_steps.proofs.book.ReachedBooks.{reached-falls}
 use Rattle.vt_steps.proofs.marks.MarkedRuns.{each-marked, own-append, shown-append, shown-marked}
 use Rattle.vt_places.specs.declared.slot.Slot.{Slot}
 use Rattle.vt_places.specs.declared.view.View.{View}
-use Rattle.vt_places.specs.Hands.{empty_hand, holding}
-use Rattle.vt_places.specs.Slots.{cell_count, word_at, empty_word, claimed_word, cell_at, held_in, IsSlotOf}
-use Rattle.vt_places.specs.Kept.{TableState, Sat, HasGrown, IsClaimed, Sits, IsAtHome, IsHeld, IsTableRight, Rests}
-use Rattle.vt_places.specs.Calls.{IsShown, Known, Took, ShowsFloor}
+use Rattle.vt_places.specs.inside.Hands.{empty_hand, holding}
+use Rattle.vt_places.specs.inside.Slots.{cell_count, word_at, empty_word, claimed_word, cell_at, held_in, IsSlotOf}
+use Rattle.vt_places.specs.inside.Kept.{TableState, Sat, HasGrown, IsClaimed, Sits, IsAtHome, IsHeld, IsTableRight, Rests}
+use Rattle.vt_places.specs.inside.Calls.{IsShown, Known, Took, ShowsFloor}
 use Rattle.vt_places.proofs.Growth.{grown-not, grown-more, own-kept}
 use Rattle.vt_places.proofs.Cells.{not-empty, same-cell_held, same-found, inbox-name, names-apart, words-apart, holds-book}
 use Rattle.vt_key.proofs.ListLemmas.{every-append, every-weaker}
@@ -299,9 +299,9 @@ module _ {S P : Type 0} (sim : Simulation S P) (config : Config) where
 
   -- a floor that a cell shows is not above the floor of a world with that cell
   shown-floor : (world : World P) (name : CellName) (cell : Cell P) (t : Time) → content world name ≡ Some cell → ShowsFloor sim.end t cell → TimeAtMost t (book_floor sim.end world.book)
-  shown-floor world name (Rattle.vt_steps.specs.Cells.in_inbox mails) t holds shows = absurd shows
-  shown-floor world name (Rattle.vt_steps.specs.Cells.on_board board) t holds shows = absurd shows
-  shown-floor world name (Rattle.vt_steps.specs.Cells.in_book book) t holds shows = subst (λ b. TimeAtMost t (book_floor sim.end b)) (sym (holds-book world name book holds)) (omega (arith, shows))
+  shown-floor world name (Rattle.vt_steps.specs.inside.Cells.in_inbox mails) t holds shows = absurd shows
+  shown-floor world name (Rattle.vt_steps.specs.inside.Cells.on_board board) t holds shows = absurd shows
+  shown-floor world name (Rattle.vt_steps.specs.inside.Cells.in_book book) t holds shows = subst (λ b. TimeAtMost t (book_floor sim.end b)) (sym (holds-book world name book holds)) (omega (arith, shows))
 
   -- one worker's steps at a cell that nobody else has claimed and that is at home after them stand behind all others
   follows : IsLawful sim → (s : TableState P) (r : IsTableRight sim config s) (id k x : ℕ) (v : View P) (found : Cell P) (slot : Slot P) (steps : List Step) (new : Part P) (made : List Made) (left : List Marked) (seen : Time)

@@ -4,13 +4,13 @@ use Rattle.std.proofs.Common.{eq-eqb}
 use Rattle.std.proofs.lemmas.Bool.Decides.{eqb_tells}
 use Rattle.std.proofs.lemmas.List.{append-nil, append_cancel_left, nil_from_length}
 use Rattle.std.specs.List.{AllByRecursion}
-use Rattle.vt_model.specs.Simulation.{Simulation}
+use Rattle.vt_model.specs.promise.Simulation.{Simulation}
 use Rattle.vt_steps.specs.declared.step.Step.{Step}
-use Rattle.vt_steps.specs.Next.{next}
-use Rattle.vt_steps.specs.World.{World, opening_world}
-use Rattle.vt_steps.specs.Marked.{Marked, Made, Answered, answered, unmarked, marked, own_steps, own_steps_of}
-use Rattle.vt_key.specs.Lists.{Among}
-use Rattle.vt_places.specs.Kept.{HasGrown}
+use Rattle.vt_steps.specs.promise.Next.{next}
+use Rattle.vt_steps.specs.promise.World.{World, opening_world}
+use Rattle.vt_steps.specs.inside.Marked.{Marked, Made, Answered, answered, unmarked, marked, own_steps, own_steps_of}
+use Rattle.vt_key.specs.promise.Lists.{Among}
+use Rattle.vt_places.specs.inside.Kept.{HasGrown}
 use Rattle.vt_key.proofs.ListLemmas.{among-right, every-all, every-among}
 
 -- the steps of a worker, without their answers

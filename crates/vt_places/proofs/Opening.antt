@@ -10,15 +10,15 @@ use lib.ListN.{get_elem?}
 use Rattle.atomic_table.specs.Seated.{TableId}
 use Rattle.vt_key.specs.declared.letter.Mail.{Mail}
 use Rattle.vt_model.specs.declared.settings.Config.{Config}
-use Rattle.vt_model.specs.Simulation.{Simulation}
-use Rattle.vt_model.specs.Settings.{end_of}
-use Rattle.vt_steps.specs.World.{Part, opening_part, opening_world, opening_board, opening_book}
-use Rattle.vt_steps.specs.Cells.{inbox_of, board_cell, book_cell, in_inbox, on_board, in_book, content}
+use Rattle.vt_model.specs.promise.Simulation.{Simulation}
+use Rattle.vt_model.specs.promise.Settings.{end_of}
+use Rattle.vt_steps.specs.promise.World.{Part, opening_part, opening_world, opening_board, opening_book}
+use Rattle.vt_steps.specs.inside.Cells.{inbox_of, board_cell, book_cell, in_inbox, on_board, in_book, content}
 use Rattle.vt_places.specs.declared.slot.Slot.{Slot}
 use Rattle.vt_places.specs.declared.place.Place.{Place}
-use Rattle.vt_places.specs.Slots.{cell_count, cell_at, held_in, IsSlotOf}
-use Rattle.vt_places.specs.Kept.{Sat, first_view, left_view, next_view}
-use Rattle.vt_places.specs.Making.{AreSlots, IsMaker, Opens, IsNew, AreNew}
+use Rattle.vt_places.specs.inside.Slots.{cell_count, cell_at, held_in, IsSlotOf}
+use Rattle.vt_places.specs.inside.Kept.{Sat, first_view, left_view, next_view}
+use Rattle.vt_places.specs.inside.Making.{AreSlots, IsMaker, Opens, IsNew, AreNew}
 use Rattle.vt_places.proofs.Cells.{inbox-name, board-name, book-name}
 
 -- ---- the cells

@@ -5,8 +5,8 @@ use Rattle.atomic_table.specs.Seated.{TableId}
 use Rattle.vt_places.specs.declared.slot.Slot.{Slot}
 use Rattle.vt_places.specs.declared.view.View.{View}
 use Rattle.vt_places.specs.declared.place.Place.{Place}
-use Rattle.vt_places.specs.Slots.{cell_count}
-use Rattle.vt_places.specs.Kept.{Sat, Rests}
+use Rattle.vt_places.specs.inside.Slots.{cell_count}
+use Rattle.vt_places.specs.inside.Kept.{Sat, Rests}
 
 -- a seat of the same table, and of the same worker
 abbrev pub IsSameSeat : {P : Type 0} → Seat (Slot P) (View P) → Seat (Slot P) (View P) → Type 0

@@ -3,21 +3,21 @@
 use Rattle.std.proofs.Common.{◌≡◌, ℕ, List, [], ◌∷◌, ◌++◌, refl, sym, ◌∙◌, ap, subst, Option, Some, None, Result, Ok, Err}
 use Rattle.std.specs.Option.{option_and_then}
 use Rattle.std.specs.Prelude.{IfOk, IfErr, MatchResult}
-use Rattle.vt_key.specs.Times.{Time}
+use Rattle.vt_key.specs.promise.Times.{Time}
 use Rattle.vt_key.specs.declared.fault.Fault.{Fault}
-use Rattle.vt_model.specs.Handler.{Handlers}
+use Rattle.vt_model.specs.promise.Handler.{Handlers}
 use Rattle.vt_model.specs.declared.settings.Config.{Config}
-use Rattle.vt_model.specs.Simulation.{Simulation, simulation_of}
+use Rattle.vt_model.specs.promise.Simulation.{Simulation, simulation_of}
 use Rattle.vt_steps.specs.declared.step.Step.{Step}
 use Rattle.vt_steps.specs.declared.step.Reply.{Reply}
-use Rattle.vt_steps.specs.World.{Part, opening_part}
-use Rattle.vt_steps.specs.Cells.{local_step, local_steps}
-use Rattle.vt_kernel.specs.Held.{HeldWorker, StandsFor}
-use Rattle.vt_kernel.specs.Guards.{IsDone, SettlesTo}
+use Rattle.vt_steps.specs.promise.World.{Part, opening_part}
+use Rattle.vt_steps.specs.inside.Cells.{local_step, local_steps}
+use Rattle.vt_kernel.specs.inside.Held.{HeldWorker, StandsFor}
+use Rattle.vt_kernel.specs.inside.Guards.{IsDone, SettlesTo}
 use Rattle.vt_places.specs.declared.view.View.{View}
-use Rattle.vt_places.specs.Kept.{Sat}
-use Rattle.vt_places.specs.Making.{Opens}
-use Rattle.vt_places.specs.Calls.{HasSameSteps, Unvisited, Closes, Stays, Reaches, Visited}
+use Rattle.vt_places.specs.inside.Kept.{Sat}
+use Rattle.vt_places.specs.inside.Making.{Opens}
+use Rattle.vt_places.specs.inside.Calls.{HasSameSteps, Unvisited, Closes, Stays, Reaches, Visited}
 
 module _ {S P : Type 0} (sim : Simulation S P) (w : ℕ) where
   -- a list of steps and then another

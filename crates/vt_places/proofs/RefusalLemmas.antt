@@ -1,24 +1,25 @@
 -- Refusals that are found in a claimed cell, as refusals of a world that cells and places showed.
 use Rattle.std.proofs.Common.{◌≡◌, inl, inr, ℕ, false, List, [], ◌∷◌, ◌++◌, refl, sym, ◌∙◌, ap, subst, arith, Option, Some, None, Ok, Err, slice_get}
-use Rattle.vt_key.specs.Times.{Time, TimeAtMost}
+use Rattle.vt_key.specs.promise.Times.{Time, TimeAtMost}
 use Rattle.vt_key.specs.declared.fault.Fault.{Fault}
 use Rattle.vt_key.specs.declared.fault.Fault.TheVariants.{NotLawful}
 use Rattle.vt_model.specs.declared.rows.Record.{Record}
-use Rattle.vt_model.specs.Sequential.{seq_records}
-use Rattle.vt_model.specs.Histories.{IsLawful}
-use Rattle.vt_model.specs.Simulation.{Simulation}
+use Rattle.vt_model.specs.promise.Sequential.{seq_records}
+use Rattle.vt_model.specs.promise.Histories.{IsLawful}
+use Rattle.vt_model.specs.promise.Simulation.{Simulation}
 use Rattle.vt_steps.specs.declared.step.Step.{Step}
 use Rattle.vt_steps.specs.declared.step.Step.TheVariants.{Cut, Report, Commit, Close}
 use Rattle.vt_steps.specs.declared.step.Reply.{Reply}
-use Rattle.vt_steps.specs.World.{Part, Board, Book, World, book_floor, book_records}
-use Rattle.vt_steps.specs.BoardSteps.{cut_board}
-use Rattle.vt_steps.specs.Next.{Outcome, next, run}
-use Rattle.vt_steps.specs.CellSteps.{CellEffect, cut, report}
-use Rattle.vt_steps.specs.Cells.{CellName, board_cell, book_cell, Cell, on_board, in_book, content, worker_of, cell_of, acted_at, act, put_back, local_steps}
-use Rattle.vt_steps.specs.Laws.{IsAny}
-use Rattle.vt_cells.specs.Calls.{IsCellRefusal, IsHandInRefusal, IsClosingRefusal}
+use Rattle.vt_steps.specs.promise.World.{Part, Board, Book, World, book_floor, book_records}
+use Rattle.vt_steps.specs.promise.BoardSteps.{cut_board}
+use Rattle.vt_steps.specs.promise.Next.{Outcome, next, run}
+use Rattle.vt_steps.specs.promise.CellSteps.{CellEffect, cut, report}
+use Rattle.vt_steps.specs.promise.Cells.{worker_of}
+use Rattle.vt_steps.specs.inside.Cells.{CellName, board_cell, book_cell, Cell, on_board, in_book, content, cell_of, acted_at, act, put_back, local_steps}
+use Rattle.vt_steps.specs.inside.Laws.{IsAny}
+use Rattle.vt_cells.specs.inside.Calls.{IsCellRefusal, IsHandInRefusal, IsClosingRefusal}
 use Rattle.vt_cells.proofs.WorldLemmas.{next-put_back, refused-there}
-use Rattle.vt_steps.specs.Marked.{Marked, unmarked, marked, shown, DoesSo, made_done, has_cut_since, has_closed}
+use Rattle.vt_steps.specs.inside.Marked.{Marked, unmarked, marked, shown, DoesSo, made_done, has_cut_since, has_closed}
 use Rattle.vt_steps.proofs.time.Floors.{reached-times}
 use Rattle.vt_steps.proofs.steps.LocalLeads.{local-does}
 use Rattle.vt_steps.proofs.marks.MarkedRuns.{shown-marked}
@@ -26,9 +27,9 @@ use Rattle.vt_steps.proofs.marks.OwnCloses.{closed-floors, unclosable-floor, clo
 use Rattle.vt_steps.proofs.book.ReachedBooks.{reached-falls, reached-accounted}
 use Rattle.vt_steps.proofs.book.Records.{records-right}
 use Rattle.vt_steps.proofs.marks.OwnCuts.{refused-cut-known}
-use Rattle.vt_kernel.specs.Refusals.{IsStepRefusal}
+use Rattle.vt_kernel.specs.promise.Refusals.{IsStepRefusal}
 use Rattle.vt_places.specs.declared.view.View.{View}
-use Rattle.vt_places.specs.Calls.{Known, IsRefusedByShown, IsCutRefusal, IsReportRefusal, IsCommitRefusal, IsCloseRefusal, IsFloorLeft, AreRecordsShown}
+use Rattle.vt_places.specs.inside.Calls.{Known, IsRefusedByShown, IsCutRefusal, IsReportRefusal, IsCommitRefusal, IsCloseRefusal, IsFloorLeft, AreRecordsShown}
 use Rattle.vt_steps.proofs.steps.MemoryLemmas.{run-append}
 use Rattle.vt_steps.proofs.steps.CellLemmas.{map-none}
 

@@ -3,31 +3,32 @@ use Rattle.std.proofs.Common.{◌≡◌, ◌≢◌, ◌⊎◌, inl, inr, ℕ, �
 use Rattle.std.proofs.lemmas.List.{append-nil}
 use Rattle.std.specs.Option.{unwrap_or}
 use Rattle.atomic_table.specs.Table.{Allows}
-use Rattle.vt_key.specs.Times.{Time, TimeAtMost}
+use Rattle.vt_key.specs.promise.Times.{Time, TimeAtMost}
 use Rattle.vt_key.specs.declared.fault.Fault.{Fault}
-use Rattle.vt_model.specs.Handler.{Handlers}
-use Rattle.vt_model.specs.Histories.{IsLawful}
+use Rattle.vt_model.specs.promise.Handler.{Handlers}
+use Rattle.vt_model.specs.promise.Histories.{IsLawful}
 use Rattle.vt_model.specs.declared.settings.Config.{Config}
-use Rattle.vt_model.specs.Simulation.{simulation_of}
-use Rattle.vt_model.specs.Settings.{end_of}
+use Rattle.vt_model.specs.promise.Simulation.{simulation_of}
+use Rattle.vt_model.specs.promise.Settings.{end_of}
 use Rattle.vt_steps.specs.declared.step.Step.{Step}
 use Rattle.vt_steps.specs.declared.step.Step.TheVariants.{Close}
 use Rattle.vt_steps.specs.declared.step.Reply.{Reply}
 use Rattle.vt_steps.specs.declared.step.Reply.TheVariants.{Done}
-use Rattle.vt_steps.specs.World.{Part}
-use Rattle.vt_steps.specs.PartSteps.{home}
-use Rattle.vt_steps.specs.Cells.{book_cell, Cell, in_inbox, worker_of, cell_of, act}
-use Rattle.vt_steps.specs.Laws.{IsAny}
-use Rattle.vt_steps.specs.Marked.{Made, marked, made_done, Leads}
+use Rattle.vt_steps.specs.promise.World.{Part}
+use Rattle.vt_steps.specs.promise.PartSteps.{home}
+use Rattle.vt_steps.specs.promise.Cells.{worker_of}
+use Rattle.vt_steps.specs.inside.Cells.{book_cell, Cell, in_inbox, cell_of, act}
+use Rattle.vt_steps.specs.inside.Laws.{IsAny}
+use Rattle.vt_steps.specs.inside.Marked.{Made, marked, made_done, Leads}
 use Rattle.vt_steps.proofs.steps.LocalLeads.{leads, leads-nowhere}
-use Rattle.vt_kernel.specs.Held.{HeldWorker, StandsFor}
+use Rattle.vt_kernel.specs.inside.Held.{HeldWorker, StandsFor}
 use Rattle.vt_places.specs.declared.view.View.{View}
-use Rattle.vt_places.specs.Hands.{empty_hand}
-use Rattle.vt_places.specs.Slots.{cell_count, word_at, empty_word, claimed_word, home_word, cell_at, held_in}
-use Rattle.vt_places.specs.Kept.{Sat, HasGrown, IsTableRight, Rests}
-use Rattle.vt_kernel.specs.Refusals.{PassesIn}
-use Rattle.vt_cells.specs.Calls.{Acts, rounds_of, IsCellStepOf}
-use Rattle.vt_places.specs.Calls.{Unvisited, Closes, Known, Reaches, Visited, Holding, ShowsFloor, MaySee}
+use Rattle.vt_places.specs.inside.Hands.{empty_hand}
+use Rattle.vt_places.specs.inside.Slots.{cell_count, word_at, empty_word, claimed_word, home_word, cell_at, held_in}
+use Rattle.vt_places.specs.inside.Kept.{Sat, HasGrown, IsTableRight, Rests}
+use Rattle.vt_kernel.specs.promise.Refusals.{PassesIn}
+use Rattle.vt_cells.specs.inside.Calls.{Acts, rounds_of, IsCellStepOf}
+use Rattle.vt_places.specs.inside.Calls.{Unvisited, Closes, Known, Reaches, Visited, Holding, ShowsFloor, MaySee}
 use Rattle.vt_places.proofs.Growth.{grown-not}
 use Rattle.vt_places.proofs.Keeps.{releases, Looked, looks}
 

@@ -7,11 +7,11 @@ use Rattle.std.proofs.Common.{set, length-set}
 use Rattle.std.specs.List.{AllByRecursion}
 use Rattle.atomic_table.proofs.Lists.{set_else}
 use Rattle.vt_model.specs.declared.settings.Config.{Config}
-use Rattle.vt_model.specs.Simulation.{Simulation}
+use Rattle.vt_model.specs.promise.Simulation.{Simulation}
 use Rattle.vt_steps.specs.declared.step.Step.{Step}
-use Rattle.vt_steps.specs.Marked.{Marked, Made, marked, unmarked}
+use Rattle.vt_steps.specs.inside.Marked.{Marked, Made, marked, unmarked}
 use Rattle.vt_places.specs.declared.view.View.{View}
-use Rattle.vt_places.specs.Kept.{TableState, HasGrown, IsTableRight}
+use Rattle.vt_places.specs.inside.Kept.{TableState, HasGrown, IsTableRight}
 use Rattle.vt_places.proofs.OneList.{AreTold, places-tell, list-grows, marked-again, steps_by, steps-behind, steps-own, steps-told}
 use Rattle.vt_places.proofs.Seating.{set-there}
 

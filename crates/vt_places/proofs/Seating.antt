@@ -10,19 +10,19 @@ use Rattle.atomic_table.specs.Table.{Splits}
 use Rattle.atomic_table.specs.Table.{opening as tabled}
 use Rattle.atomic_table.proofs.Lists.{at_set, set_else, at_snoc, at_longer, at_last}
 use Rattle.vt_model.specs.declared.settings.Config.{Config}
-use Rattle.vt_model.specs.Simulation.{Simulation}
-use Rattle.vt_steps.specs.World.{opening_part, opening_world}
-use Rattle.vt_steps.specs.Cells.{inbox_of, Cell, in_inbox, content}
-use Rattle.vt_steps.specs.Marked.{Marked, own_steps}
-use Rattle.vt_steps.specs.Next.{run}
+use Rattle.vt_model.specs.promise.Simulation.{Simulation}
+use Rattle.vt_steps.specs.promise.World.{opening_part, opening_world}
+use Rattle.vt_steps.specs.inside.Cells.{inbox_of, Cell, in_inbox, content}
+use Rattle.vt_steps.specs.inside.Marked.{Marked, own_steps}
+use Rattle.vt_steps.specs.promise.Next.{run}
 use Rattle.vt_steps.proofs.marks.MarkedRuns.{own-others}
 use Rattle.vt_steps.proofs.steps.LocalLeads.{run-others_part}
 use Rattle.vt_steps.proofs.lists.Places.{get-map_range}
 use Rattle.vt_places.specs.declared.slot.Slot.{Slot}
 use Rattle.vt_places.specs.declared.view.View.{View}
-use Rattle.vt_places.specs.Hands.{empty_hand, holding}
-use Rattle.vt_places.specs.Slots.{cell_count, word_at, cell_at, held_in, IsSlotOf}
-use Rattle.vt_places.specs.Kept.{TableState, IsSeated, IsClaimed, Makes, Sits, IsTableRight, first_view, left_view, next_view}
+use Rattle.vt_places.specs.inside.Hands.{empty_hand, holding}
+use Rattle.vt_places.specs.inside.Slots.{cell_count, word_at, cell_at, held_in, IsSlotOf}
+use Rattle.vt_places.specs.inside.Kept.{TableState, IsSeated, IsClaimed, Makes, Sits, IsTableRight, first_view, left_view, next_view}
 use Rattle.vt_places.proofs.Cells.{not-empty}
 use Rattle.vt_places.proofs.Growth.{grown-not, grown-before}
 use Rattle.vt_key.proofs.ListLemmas.{every-weaker}

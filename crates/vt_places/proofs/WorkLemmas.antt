@@ -5,21 +5,21 @@ use Rattle.atomic_table.specs.Seated.{TableId}
 use Rattle.vt_key.specs.declared.fault.Fault.{Fault}
 use Rattle.vt_key.specs.declared.fault.Fault.TheVariants.{NotLawful}
 use Rattle.vt_model.specs.declared.settings.Config.{Config}
-use Rattle.vt_model.specs.Handler.{Handlers}
-use Rattle.vt_model.specs.Settings.{end_of}
-use Rattle.vt_model.specs.Simulation.{simulation_of}
+use Rattle.vt_model.specs.promise.Handler.{Handlers}
+use Rattle.vt_model.specs.promise.Settings.{end_of}
+use Rattle.vt_model.specs.promise.Simulation.{simulation_of}
 use Rattle.vt_steps.specs.declared.step.Step.{Step}
-use Rattle.vt_steps.specs.Finals.{worker_finals}
-use Rattle.vt_steps.specs.World.{Part, opening_part}
-use Rattle.vt_steps.specs.Cells.{local_step}
-use Rattle.vt_kernel.specs.Held.{HeldWorker, StandsFor}
-use Rattle.vt_kernel.specs.Guards.{IsDone, SettlesTo}
+use Rattle.vt_steps.specs.inside.Finals.{worker_finals}
+use Rattle.vt_steps.specs.promise.World.{Part, opening_part}
+use Rattle.vt_steps.specs.inside.Cells.{local_step}
+use Rattle.vt_kernel.specs.inside.Held.{HeldWorker, StandsFor}
+use Rattle.vt_kernel.specs.inside.Guards.{IsDone, SettlesTo}
 use Rattle.vt_places.specs.declared.view.View.{View}
 use Rattle.vt_places.specs.declared.place.Place.{Place}
-use Rattle.vt_places.specs.Told.{place_table, place_view, place_seat}
-use Rattle.vt_places.specs.Making.{IsNew}
-use Rattle.vt_places.specs.AtWork.{AtWork, IsAtWork}
-use Rattle.vt_places.specs.Calls.{Reaches, Closes, Stays, IsRefusedAlone}
+use Rattle.vt_places.specs.inside.Told.{place_table, place_view, place_seat}
+use Rattle.vt_places.specs.inside.Making.{IsNew}
+use Rattle.vt_places.specs.inside.AtWork.{AtWork, IsAtWork}
+use Rattle.vt_places.specs.inside.Calls.{Reaches, Closes, Stays, IsRefusedAlone}
 use Rattle.vt_places.proofs.ReachLemmas.{reaches-opening, reaches-either, reaches-settled, reaches-closed, kept-of}
 
 -- with a kernel at the opening, at a place as it was made

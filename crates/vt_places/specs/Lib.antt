@@ -1,8 +1,1 @@
-pub mod Hands
-pub mod Slots
-pub mod Kept
-pub mod Told
-pub mod Calls
-pub mod Commits
-pub mod Making
-pub mod AtWork
+pub mod inside

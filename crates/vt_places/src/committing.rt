@@ -1,13 +1,13 @@
 //! The book: commit, close and what it shows.
 
 ghost use Rattle.std.specs.Prelude.{◌≡◌, ◌<◌, [], Err, IfOk, IfErr, MatchResult};
-ghost use Rattle.vt_key.specs.Times.{Time as TimeValue};
+ghost use Rattle.vt_key.specs.promise.Times.{Time as TimeValue};
 ghost use Rattle.vt_key.specs.declared.fault.Fault.TheVariants.{Busy, NotLawful};
-ghost use Rattle.vt_model.specs.Settings.{end_of};
+ghost use Rattle.vt_model.specs.promise.Settings.{end_of};
 ghost use Rattle.vt_steps.specs.declared.step.Step.TheVariants as step;
 ghost use Rattle.vt_steps.specs.declared.step.Reply.TheVariants as reply;
-ghost use Rattle.vt_places.specs.Told.{station_model, station_config, station_run, station_table, place_table, place_worker, place_view};
-ghost use Rattle.vt_places.specs.Calls.{Reaches, Visited, Closes, Unvisited, Stays, ShowsFloor, IsCommitRefusal, IsCloseRefusal, IsRecordsRefusal, IsHandOutRefusal, IsFloorLeft, AreRecordsShown, AreHandedOut, IsRefusedOnceClosed, IsRefusedAlone, RefusesAlone};
+ghost use Rattle.vt_places.specs.inside.Told.{station_model, station_config, station_run, station_table, place_table, place_worker, place_view};
+ghost use Rattle.vt_places.specs.inside.Calls.{Reaches, Visited, Closes, Unvisited, Stays, ShowsFloor, IsCommitRefusal, IsCloseRefusal, IsRecordsRefusal, IsHandOutRefusal, IsFloorLeft, AreRecordsShown, AreHandedOut, IsRefusedOnceClosed, IsRefusedAlone, RefusesAlone};
 
 use crate::place::Place;
 use crate::slot::Slot;

@@ -3,10 +3,10 @@
 ghost use Rattle.std.specs.Prelude.{◌≡◌, IfErr, MatchResult};
 ghost use Rattle.vt_steps.specs.declared.step.Step.TheVariants as step;
 ghost use Rattle.vt_steps.specs.declared.step.Reply.TheVariants as reply;
-ghost use Rattle.vt_board.specs.Calls.{reply_of};
-ghost use Rattle.vt_cells.specs.Calls.{answer_of};
-ghost use Rattle.vt_places.specs.Told.{station_model, station_config, station_run, station_table, place_table, place_worker, place_view};
-ghost use Rattle.vt_places.specs.Calls.{Reaches, Visited, Stays, IsCutRefusal, IsReportRefusal, answer_as, RefusesAlone};
+ghost use Rattle.vt_board.specs.inside.Calls.{reply_of};
+ghost use Rattle.vt_cells.specs.inside.Calls.{answer_of};
+ghost use Rattle.vt_places.specs.inside.Told.{station_model, station_config, station_run, station_table, place_table, place_worker, place_view};
+ghost use Rattle.vt_places.specs.inside.Calls.{Reaches, Visited, Stays, IsCutRefusal, IsReportRefusal, answer_as, RefusesAlone};
 
 use crate::place::Place;
 use crate::slot::Slot;

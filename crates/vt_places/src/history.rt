@@ -5,10 +5,10 @@ ghost use Rattle.std.specs.List.{AllByRecursion};
 ghost use mathlib.Core.Option.{some};
 ghost use lib.ListN.{get_elem?};
 ghost use Rattle.vt_model.specs.declared.settings.Config.{Config};
-ghost use Rattle.vt_model.specs.Simulation.{Simulation};
-ghost use Rattle.vt_steps.specs.Marked.{Marked, Made, marked};
+ghost use Rattle.vt_model.specs.promise.Simulation.{Simulation};
+ghost use Rattle.vt_steps.specs.inside.Marked.{Marked, Made, marked};
 ghost use Rattle.vt_places.specs.declared.view.View.{View};
-ghost use Rattle.vt_places.specs.Kept.{TableState, HasGrown, IsTableRight};
+ghost use Rattle.vt_places.specs.inside.Kept.{TableState, HasGrown, IsTableRight};
 
 /// There is one list of all steps, and it grows at its end alone. Each place knows the list as its last visit left it, and its
 /// worker has made no step since. These beginnings determine the list: two lists that fit all of them are equal (`told`). So

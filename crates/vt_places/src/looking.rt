@@ -1,18 +1,18 @@
 //! Looks at a place, and at a cell without a claim.
 
 ghost use Rattle.std.specs.Prelude.{◌≡◌, ◌<◌, true, false, Err, IfOk, IfErr};
-ghost use Rattle.vt_key.specs.Times.{TimeAtMost, TimeBefore};
+ghost use Rattle.vt_key.specs.promise.Times.{TimeAtMost, TimeBefore};
 ghost use Rattle.vt_key.specs.declared.fault.Fault.TheVariants.{Memory, NotLawful};
-ghost use Rattle.vt_model.specs.Simulation.{simulation_of};
-ghost use Rattle.vt_model.specs.Settings.{end_of};
-ghost use Rattle.vt_steps.specs.Finals.{worker_finals};
+ghost use Rattle.vt_model.specs.promise.Simulation.{simulation_of};
+ghost use Rattle.vt_model.specs.promise.Settings.{end_of};
+ghost use Rattle.vt_steps.specs.inside.Finals.{worker_finals};
 ghost use Rattle.vt_steps.specs.declared.step.Step.TheVariants as step;
 ghost use Rattle.vt_steps.specs.declared.step.Reply.TheVariants as reply;
-ghost use Rattle.vt_steps.specs.Letters.{is_empty};
-ghost use Rattle.vt_kernel.specs.Held.{AreCounted};
-ghost use Rattle.vt_places.specs.Kept.{Rests};
-ghost use Rattle.vt_places.specs.Told.{station_model, station_config, station_run, station_table, place_table, place_worker, place_view};
-ghost use Rattle.vt_places.specs.Calls.{IsShown, Reaches, Visited};
+ghost use Rattle.vt_steps.specs.promise.Letters.{is_empty};
+ghost use Rattle.vt_kernel.specs.inside.Held.{AreCounted};
+ghost use Rattle.vt_places.specs.inside.Kept.{Rests};
+ghost use Rattle.vt_places.specs.inside.Told.{station_model, station_config, station_run, station_table, place_table, place_worker, place_view};
+ghost use Rattle.vt_places.specs.inside.Calls.{IsShown, Reaches, Visited};
 
 use crate::place::Place;
 use crate::station::{EMPTY, Seat, Station};

@@ -2,10 +2,10 @@
 
 ghost use Rattle.std.specs.Prelude.{◌≡◌, ◌<◌, ◌+◌, ℕ, [], length, IfOk, IfErr};
 ghost use Rattle.vt_key.specs.declared.fault.Fault.TheVariants.{Memory};
-ghost use Rattle.vt_model.specs.Simulation.{simulation_of};
-ghost use Rattle.vt_places.specs.Kept.{first_view};
-ghost use Rattle.vt_places.specs.Told.{station_model, station_config, station_run, station_table};
-ghost use Rattle.vt_places.specs.Making.{AreSlots, IsMaker, Opens, AreNew};
+ghost use Rattle.vt_model.specs.promise.Simulation.{simulation_of};
+ghost use Rattle.vt_places.specs.inside.Kept.{first_view};
+ghost use Rattle.vt_places.specs.inside.Told.{station_model, station_config, station_run, station_table};
+ghost use Rattle.vt_places.specs.inside.Making.{AreSlots, IsMaker, Opens, AreNew};
 
 use crate::place::{Place, place_of};
 use crate::rule::{About, Law};
@@ -24,7 +24,7 @@ use vt_model::{Config, Model as EventModel};
 pub(crate) struct Next;
 
 impl<P> Split<View<P>> for Next {
-    ghost use Rattle.vt_places.specs.Kept.{left_view, next_view};
+    ghost use Rattle.vt_places.specs.inside.Kept.{left_view, next_view};
 
     ghost left = { left_view };
 

@@ -1,8 +1,8 @@
 //! A place at a station.
 
 ghost use Rattle.std.specs.Prelude.{◌≡◌, ◌<◌};
-ghost use Rattle.vt_places.specs.Slots.{cell_count};
-ghost use Rattle.vt_places.specs.Kept.{Rests};
+ghost use Rattle.vt_places.specs.inside.Slots.{cell_count};
+ghost use Rattle.vt_places.specs.inside.Kept.{Rests};
 
 use crate::slot::Slot;
 use crate::view::View;

@@ -4,12 +4,12 @@ ghost use Rattle.std.specs.Prelude.{◌≡◌, false, Err, IfErr, MatchResult};
 ghost use Rattle.vt_key.specs.declared.fault.Fault.TheVariants.{NotLawful};
 ghost use Rattle.vt_steps.specs.declared.step.Step.TheVariants as step;
 ghost use Rattle.vt_steps.specs.declared.step.Reply.TheVariants as reply;
-ghost use Rattle.vt_steps.specs.World.{Part};
-ghost use Rattle.vt_steps.specs.Letters.{is_empty};
-ghost use Rattle.vt_steps.specs.CellSteps.{may_send};
-ghost use Rattle.vt_kernel.specs.Held.{StandsFor};
-ghost use Rattle.vt_places.specs.Told.{station_model, station_config, station_run, station_table, place_table, place_worker, place_view};
-ghost use Rattle.vt_places.specs.Calls.{Reaches, Visited, Stays, IsPostRefusal, IsFetchRefusal};
+ghost use Rattle.vt_steps.specs.promise.World.{Part};
+ghost use Rattle.vt_steps.specs.promise.Letters.{is_empty};
+ghost use Rattle.vt_steps.specs.promise.CellSteps.{may_send};
+ghost use Rattle.vt_kernel.specs.inside.Held.{StandsFor};
+ghost use Rattle.vt_places.specs.inside.Told.{station_model, station_config, station_run, station_table, place_table, place_worker, place_view};
+ghost use Rattle.vt_places.specs.inside.Calls.{Reaches, Visited, Stays, IsPostRefusal, IsFetchRefusal};
 
 use crate::place::Place;
 use crate::slot::Slot;

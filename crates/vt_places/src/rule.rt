@@ -20,8 +20,8 @@ pub(crate) struct Law<M> {
 }
 
 impl<M: EventModel> TableRule<Slot<M::Payload>, View<M::Payload>, About<M>> for Law<M> {
-    ghost use Rattle.vt_model.specs.Simulation.{simulation_of};
-    ghost use Rattle.vt_places.specs.Kept.{IsTableRight, first_view};
+    ghost use Rattle.vt_model.specs.promise.Simulation.{simulation_of};
+    ghost use Rattle.vt_places.specs.inside.Kept.{IsTableRight, first_view};
 
     ghost holds = { λ key. IsTableRight (simulation_of (M.handlers key.model.value) key.config) key.config };
 
@@ -31,7 +31,7 @@ impl<M: EventModel> TableRule<Slot<M::Payload>, View<M::Payload>, About<M>> for 
 /// What a caller wants to know after an atomic step: of the word that it found, and of its seat afterwards.
 pub(crate) trait Aim<P> {
     ghost use Rattle.std.specs.Prelude.{ℕ};
-    ghost use Rattle.vt_places.specs.Kept.{Sat};
+    ghost use Rattle.vt_places.specs.inside.Kept.{Sat};
 
     ghost after: { ℕ → Sat P → Type 0 };
 }

@@ -2,20 +2,21 @@
 
 ghost use Rattle.std.specs.Prelude.{◌≡◌, ◌≢◌, ◌<◌, ◌≤◌, ◌+◌, [], true, false, Ok, IfOk, MatchResult, unwrap_or};
 ghost use Rattle.atomic_table.specs.Table.{Allows};
-ghost use Rattle.vt_model.specs.Histories.{IsLawful};
-ghost use Rattle.vt_model.specs.Simulation.{simulation_of};
-ghost use Rattle.vt_model.specs.Settings.{end_of};
+ghost use Rattle.vt_model.specs.promise.Histories.{IsLawful};
+ghost use Rattle.vt_model.specs.promise.Simulation.{simulation_of};
+ghost use Rattle.vt_model.specs.promise.Settings.{end_of};
 ghost use Rattle.vt_steps.specs.declared.step.Step.TheVariants.{Close};
 ghost use Rattle.vt_steps.specs.declared.step.Reply.TheVariants.{Done};
-ghost use Rattle.vt_steps.specs.World.{Part};
-ghost use Rattle.vt_steps.specs.Cells.{Cell, in_inbox, on_board, in_book, worker_of, cell_of, book_cell, act};
-ghost use Rattle.vt_steps.specs.Laws.{IsAny};
+ghost use Rattle.vt_steps.specs.promise.World.{Part};
+ghost use Rattle.vt_steps.specs.promise.Cells.{worker_of};
+ghost use Rattle.vt_steps.specs.inside.Cells.{Cell, in_inbox, on_board, in_book, cell_of, book_cell, act};
+ghost use Rattle.vt_steps.specs.inside.Laws.{IsAny};
 ghost use Rattle.vt_key.specs.declared.limits.TheConstants.{MAX_WORKERS};
-ghost use Rattle.vt_places.specs.Slots.{cell_count, word_at, empty_word, claimed_word, cell_at};
-ghost use Rattle.vt_places.specs.Kept.{IsTableRight, Rests};
-ghost use Rattle.vt_places.specs.Commits.{Commits};
-ghost use Rattle.vt_cells.specs.Calls.{IsCellStepOf, CommitsTo};
-ghost use Rattle.vt_places.specs.Calls.{Took, TookThere, Holding, MaySee, Reaches, Visited, Unvisited, Closes, ShowsFloor, answer_as};
+ghost use Rattle.vt_places.specs.inside.Slots.{cell_count, word_at, empty_word, claimed_word, cell_at};
+ghost use Rattle.vt_places.specs.inside.Kept.{IsTableRight, Rests};
+ghost use Rattle.vt_places.specs.inside.Commits.{Commits};
+ghost use Rattle.vt_cells.specs.inside.Calls.{IsCellStepOf, CommitsTo};
+ghost use Rattle.vt_places.specs.inside.Calls.{Took, TookThere, Holding, MaySee, Reaches, Visited, Unvisited, Closes, ShowsFloor, answer_as};
 
 use crate::rule::{About, Aim, Law, Tell};
 use crate::slot::Slot;

@@ -2,10 +2,10 @@
 
 ghost use Rattle.std.specs.Prelude.{ℕ, List, Option};
 ghost use base.Fml.{ftrue};
-ghost use Rattle.vt_key.specs.Times.{Time};
-ghost use Rattle.vt_steps.specs.World.{Part};
-ghost use Rattle.vt_steps.specs.Marked.{Made, Marked};
-ghost use Rattle.vt_places.specs.Hands.{Hand};
+ghost use Rattle.vt_key.specs.promise.Times.{Time};
+ghost use Rattle.vt_steps.specs.promise.World.{Part};
+ghost use Rattle.vt_steps.specs.inside.Marked.{Made, Marked};
+ghost use Rattle.vt_places.specs.inside.Hands.{Hand};
 
 use std::marker::{Model, PhantomData};
 

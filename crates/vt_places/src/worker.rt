@@ -1,25 +1,25 @@
 //! A worker that is driven by hand: the station's calls and the kernel's local steps together.
 
 ghost use Rattle.std.specs.Prelude.{◌≡◌, ◌<◌, [], false, Err, IfOk, IfErr, MatchResult};
-ghost use Rattle.vt_key.specs.Times.{Time, TimeAtMost, TimeBefore};
+ghost use Rattle.vt_key.specs.promise.Times.{Time, TimeAtMost, TimeBefore};
 ghost use Rattle.vt_key.specs.declared.fault.Fault.TheVariants.{Memory, NotLawful};
-ghost use Rattle.vt_model.specs.Simulation.{simulation_of};
-ghost use Rattle.vt_model.specs.Settings.{end_of};
-ghost use Rattle.vt_steps.specs.World.{Part, opening_part};
-ghost use Rattle.vt_steps.specs.Finals.{worker_finals};
-ghost use Rattle.vt_steps.specs.Letters.{is_empty};
-ghost use Rattle.vt_steps.specs.CellSteps.{may_send};
+ghost use Rattle.vt_model.specs.promise.Simulation.{simulation_of};
+ghost use Rattle.vt_model.specs.promise.Settings.{end_of};
+ghost use Rattle.vt_steps.specs.promise.World.{Part, opening_part};
+ghost use Rattle.vt_steps.specs.inside.Finals.{worker_finals};
+ghost use Rattle.vt_steps.specs.promise.Letters.{is_empty};
+ghost use Rattle.vt_steps.specs.promise.CellSteps.{may_send};
 ghost use Rattle.vt_steps.specs.declared.step.Step.TheVariants as step;
 ghost use Rattle.vt_steps.specs.declared.step.Reply.TheVariants as reply;
-ghost use Rattle.vt_board.specs.Calls.{reply_of};
-ghost use Rattle.vt_kernel.specs.Held.{StandsFor};
-ghost use Rattle.vt_kernel.specs.Guards.{SettlesTo};
-ghost use Rattle.vt_kernel.specs.Steps.{DoesStep, RefusesStep, RefusesExecute, RefusesAccept};
-ghost use Rattle.vt_kernel.specs.Refusals.{PassesIn};
-ghost use Rattle.vt_places.specs.Told.{station_model, station_config, station_table, place_table, place_view};
-ghost use Rattle.vt_places.specs.Making.{IsNew};
-ghost use Rattle.vt_places.specs.Calls.{Reaches, Closes, Unvisited, Stays, ShowsFloor, IsPostRefusal, IsFetchRefusal, IsCutRefusal, IsReportRefusal, IsCommitRefusal, IsCloseRefusal, IsRecordsRefusal, IsHandOutRefusal, IsFloorLeft, AreRecordsShown, AreHandedOut, IsRefusedOnceClosed, IsRefusedAlone, RefusesAlone};
-ghost use Rattle.vt_places.specs.AtWork.{IsAtSamePlace, IsAtSameStation, KeepsAll, simulation_at, MakesVisit};
+ghost use Rattle.vt_board.specs.inside.Calls.{reply_of};
+ghost use Rattle.vt_kernel.specs.inside.Held.{StandsFor};
+ghost use Rattle.vt_kernel.specs.inside.Guards.{SettlesTo};
+ghost use Rattle.vt_kernel.specs.inside.Steps.{DoesStep, RefusesStep, RefusesExecute, RefusesAccept};
+ghost use Rattle.vt_kernel.specs.promise.Refusals.{PassesIn};
+ghost use Rattle.vt_places.specs.inside.Told.{station_model, station_config, station_table, place_table, place_view};
+ghost use Rattle.vt_places.specs.inside.Making.{IsNew};
+ghost use Rattle.vt_places.specs.inside.Calls.{Reaches, Closes, Unvisited, Stays, ShowsFloor, IsPostRefusal, IsFetchRefusal, IsCutRefusal, IsReportRefusal, IsCommitRefusal, IsCloseRefusal, IsRecordsRefusal, IsHandOutRefusal, IsFloorLeft, AreRecordsShown, AreHandedOut, IsRefusedOnceClosed, IsRefusedAlone, RefusesAlone};
+ghost use Rattle.vt_places.specs.inside.AtWork.{IsAtSamePlace, IsAtSameStation, KeepsAll, simulation_at, MakesVisit};
 
 use crate::place::Place;
 use crate::station::Station;
@@ -45,8 +45,8 @@ pub struct Worker<'a, M: EventModel> {
 }
 
 impl<'a, M: EventModel> Model for Worker<'a, M> {
-    ghost use Rattle.vt_places.specs.Told.{station_model, place_table};
-    ghost use Rattle.vt_places.specs.AtWork.{AtWork, IsAtWork, at_work};
+    ghost use Rattle.vt_places.specs.inside.Told.{station_model, place_table};
+    ghost use Rattle.vt_places.specs.inside.AtWork.{AtWork, IsAtWork, at_work};
 
     ghost Value = { AtWork M M.State M.Payload M.Kept };
 

@@ -3,19 +3,19 @@ use Rattle.std.proofs.Common.{◌≡◌, ◌∙◌, ℕ, Bool, true, false, not,
 use Rattle.std.specs.List.{filter, flat_map}
 use Rattle.std.proofs.lemmas.Bool.{eqb-true}
 use Rattle.std.proofs.lemmas.List.Filters.{sum_by-filter_both}
-use Rattle.vt_key.specs.Times.{Time, TimeAtMost}
-use Rattle.vt_key.specs.Order.{RankBefore}
+use Rattle.vt_key.specs.promise.Times.{Time, TimeAtMost}
+use Rattle.vt_key.specs.inside.Order.{RankBefore}
 use Rattle.vt_key.proofs.ListLemmas.{every-filter, every-weaker, rising-filter, rising-unmap, rising-weaker, filter-among}
 use Rattle.vt_model.specs.declared.rows.Row.{Row}
 use Rattle.vt_model.specs.declared.settings.Config.{Config}
 use Rattle.vt_steps.proofs.letters.RankTimes.{rank-order-time}
-use Rattle.vt_stream.specs.Words.{Stream}
-use Rattle.vt_outbox.specs.Outbox.{HeldOutbox}
-use Rattle.vt_logs.specs.Events.{Logged, is_of, is_below, is_above, events_of, event_rows, rows_below, time_of, AreInOrder}
-use Rattle.vt_pool.specs.View.{Placed, Stock}
-use Rattle.vt_pool.specs.Inside.{AreRisingPasts, AreSettled, ComesAfter, IsHeard, IsStampedApart, IsWorkersEvent, nodes_of, placed_rank, IsStockInside, IsPoolInside}
-use Rattle.vt_pool.specs.Forgotten.{is_placed_ripe, unripe_placed, placed_rows, rows_of_placed, forgotten_in}
-use Rattle.vt_pool.specs.Logged.{placed}
+use Rattle.vt_stream.specs.inside.Words.{Stream}
+use Rattle.vt_outbox.specs.inside.Outbox.{HeldOutbox}
+use Rattle.vt_logs.specs.inside.Events.{Logged, is_of, is_below, is_above, events_of, event_rows, rows_below, time_of, AreInOrder}
+use Rattle.vt_pool.specs.inside.View.{Placed, Stock}
+use Rattle.vt_pool.specs.inside.Inside.{AreRisingPasts, AreSettled, ComesAfter, IsHeard, IsStampedApart, IsWorkersEvent, nodes_of, placed_rank, IsStockInside, IsPoolInside}
+use Rattle.vt_pool.specs.inside.Forgotten.{is_placed_ripe, unripe_placed, placed_rows, rows_of_placed, forgotten_in}
+use Rattle.vt_pool.specs.inside.Logged.{placed}
 
 -- ---- what a log has
 

@@ -2,32 +2,33 @@
 use Rattle.std.proofs.Common.{◌≡◌, ◌∙◌, ℕ, zero, suc, ◌%◌, ◌≤◌, Bool, true, false, if◌then◌else◌, List, [], ◌∷◌, ◌++◌, append-nil, append_assoc, map, ◌+◌, refl, sym, ap, subst, arith, inl, inr, Some, slice_get, slice_set}
 use Rattle.std.specs.List.{All, find, list_any, AllByRecursion}
 use Rattle.std.proofs.lemmas.List.Elements.{All-cons, All-head, All-tail}
-use Rattle.vt_key.specs.Times.{Time, TimeAtMost}
+use Rattle.vt_key.specs.promise.Times.{Time, TimeAtMost}
 use Rattle.std.proofs.Math.ListN.{length-set}
 use Rattle.std.proofs.lemmas.Bool.{eqb-true}
-use Rattle.vt_key.specs.Order.{RankBefore, rank_before}
+use Rattle.vt_key.specs.promise.Order.{rank_before}
+use Rattle.vt_key.specs.inside.Order.{RankBefore}
 use Rattle.vt_key.specs.declared.order.Stamp.{Stamp}
-use Rattle.vt_key.specs.Queues.{letter_rank, insert_letter, without_first}
+use Rattle.vt_key.specs.promise.Queues.{letter_rank, insert_letter, without_first}
 use Rattle.vt_key.specs.declared.letter.Letter.{Letter}
 use Rattle.vt_key.specs.declared.letter.Sign.TheVariants.{Plus}
 use Rattle.vt_key.proofs.ListLemmas.{every-weaker, every-insert_ordered}
 use Rattle.vt_key.proofs.RisingLemmas.{first-false, second-false}
-use Rattle.vt_stream.specs.Words.{Stream}
+use Rattle.vt_stream.specs.inside.Words.{Stream}
 use Rattle.vt_model.specs.declared.sending.Sent.{Sent}
 use Rattle.vt_model.specs.declared.settings.Config.{Config}
-use Rattle.vt_model.specs.Handler.{Handlers}
-use Rattle.vt_model.specs.Settings.{end_of}
-use Rattle.vt_steps.specs.Letters.{stamped, signed}
-use Rattle.vt_steps.specs.PartSteps.{is_for}
+use Rattle.vt_model.specs.promise.Handler.{Handlers}
+use Rattle.vt_model.specs.promise.Settings.{end_of}
+use Rattle.vt_steps.specs.promise.Letters.{stamped, signed}
+use Rattle.vt_steps.specs.promise.PartSteps.{is_for}
 use Rattle.vt_steps.proofs.lists.Places.{get-put_same}
 use Rattle.vt_contest.proofs.Written.{put-there}
-use Rattle.vt_lp.specs.Held.{AllWithinRun, IsWithinRun}
-use Rattle.vt_pool.specs.View.{Placed, Stock}
-use Rattle.vt_pool.specs.Steps.{received_in}
-use Rattle.vt_pool.specs.Inside.{IsWorkersLetter, IsHeard, ComesAfter, AreSettled, placed_rank, IsPoolInside}
-use Rattle.vt_pool.specs.Share.{HeldPool, PoolLeadsTo}
-use Rattle.vt_pool.specs.Pool.{holds_stamp, with_letter}
-use Rattle.vt_pool.specs.Executing.{ComesHome, AreDelivered}
+use Rattle.vt_lp.specs.inside.Held.{AllWithinRun, IsWithinRun}
+use Rattle.vt_pool.specs.inside.View.{Placed, Stock}
+use Rattle.vt_pool.specs.inside.Steps.{received_in}
+use Rattle.vt_pool.specs.inside.Inside.{IsWorkersLetter, IsHeard, ComesAfter, AreSettled, placed_rank, IsPoolInside}
+use Rattle.vt_pool.specs.inside.Share.{HeldPool, PoolLeadsTo}
+use Rattle.vt_pool.specs.inside.Pool.{holds_stamp, with_letter}
+use Rattle.vt_pool.specs.inside.Executing.{ComesHome, AreDelivered}
 use Rattle.vt_pool.proofs.InsideLemmas.{message-inside}
 use Rattle.vt_pool.proofs.KeptLemmas.{now-heard, still-heard}
 use Rattle.vt_pool.proofs.HoldLemmas.{not-held, new-pending, new-past}

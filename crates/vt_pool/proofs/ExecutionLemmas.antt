@@ -5,53 +5,54 @@ use Rattle.std.specs.Option.{option_and_then}
 use Rattle.std.proofs.Math.ListN.{length-set}
 use Rattle.std.proofs.lemmas.List.Sums.{sum_by-cons}
 use Rattle.std.proofs.lemmas.List.Elements.{All-append, All-nil, All-cons, All-head, All-tail}
-use Rattle.vt_key.specs.Times.{Time, TimeAtMost}
-use Rattle.vt_key.specs.Order.{RankBefore}
-use Rattle.vt_key.specs.Queues.{letter_rank, IsRising}
+use Rattle.vt_key.specs.promise.Times.{Time, TimeAtMost}
+use Rattle.vt_key.specs.inside.Order.{RankBefore}
+use Rattle.vt_key.specs.promise.Queues.{letter_rank}
+use Rattle.vt_key.specs.inside.Queues.{IsRising}
 use Rattle.vt_key.specs.declared.limits.TheConstants.{MAX_COUNT}
 use Rattle.vt_key.specs.declared.fault.Fault.{Fault}
 use Rattle.vt_key.specs.declared.letter.Event.{Event}
 use Rattle.vt_key.specs.declared.letter.Letter.{Letter}
 use Rattle.vt_key.specs.declared.letter.Sign.TheVariants.{Plus, Minus}
 use Rattle.vt_key.proofs.ListLemmas.{every-append, every-put, every-weaker}
-use Rattle.vt_stream.specs.Words.{Stream}
+use Rattle.vt_stream.specs.inside.Words.{Stream}
 use Rattle.vt_model.specs.declared.rows.Record.{Record}
 use Rattle.vt_model.specs.declared.sending.Sent.{Sent}
 use Rattle.vt_model.specs.declared.settings.Config.{Config}
-use Rattle.vt_model.specs.Handler.{Handlers}
-use Rattle.vt_model.specs.Settings.{end_of}
-use Rattle.vt_model.specs.Simulation.{Triple, simulation_of}
+use Rattle.vt_model.specs.promise.Handler.{Handlers}
+use Rattle.vt_model.specs.promise.Settings.{end_of}
+use Rattle.vt_model.specs.promise.Simulation.{Triple, simulation_of}
 use Rattle.vt_model.proofs.LawLemmas.{after_state}
 use Rattle.vt_steps.specs.declared.step.Step.{Step}
 use Rattle.vt_steps.specs.declared.step.Step.TheVariants.{Execute}
-use Rattle.vt_steps.specs.Letters.{stamped, signed}
-use Rattle.vt_steps.specs.World.{LogicalProcess, Part, entry_events}
-use Rattle.vt_steps.specs.ProcessSteps.{execute_process}
-use Rattle.vt_steps.specs.StandsFor.{IsRemembered}
-use Rattle.vt_steps.specs.Cells.{local_steps}
+use Rattle.vt_steps.specs.promise.Letters.{stamped, signed}
+use Rattle.vt_steps.specs.promise.World.{LogicalProcess, Part, entry_events}
+use Rattle.vt_steps.specs.promise.ProcessSteps.{execute_process}
+use Rattle.vt_steps.specs.inside.StandsFor.{IsRemembered}
+use Rattle.vt_steps.specs.inside.Cells.{local_steps}
 use Rattle.vt_steps.proofs.steps.MemoryLemmas.{is_where}
 use Rattle.vt_past.specs.declared.event.PastEvent.{PastEvent}
 use Rattle.vt_past.specs.declared.event.UndoEntry.{UndoEntry}
-use Rattle.vt_past.specs.Events.{past_event}
-use Rattle.vt_lp.specs.Held.{HeldProcess, AllWithinRun, IsWithinRun, IsReady, StandsFor as ProcessStandsFor, process_memory, remembered}
-use Rattle.vt_lp.specs.Guards.{IsExecuteRefusal as ProcessRefusal}
-use Rattle.vt_lp.specs.Past.{IsAdvanceRefusal, ready_event}
+use Rattle.vt_past.specs.inside.Events.{past_event}
+use Rattle.vt_lp.specs.inside.Held.{HeldProcess, AllWithinRun, IsWithinRun, IsReady, StandsFor as ProcessStandsFor, process_memory, remembered}
+use Rattle.vt_lp.specs.inside.Guards.{IsExecuteRefusal as ProcessRefusal}
+use Rattle.vt_lp.specs.inside.Past.{IsAdvanceRefusal, ready_event}
 use Rattle.vt_lp.proofs.ExecuteLemmas.{refuses}
 use Rattle.vt_lp.proofs.Stamping.{length-letters}
 use Rattle.vt_logs.specs.declared.entry.Entry.{Entry}
-use Rattle.vt_outbox.specs.Outbox.{HeldOutbox}
-use Rattle.vt_kernel.specs.Held.{HeldWorker, StandsFor}
-use Rattle.vt_kernel.specs.Guards.{IsDone, IsExecuteRefusal}
-use Rattle.vt_kernel.specs.Steps.{part_after}
+use Rattle.vt_outbox.specs.inside.Outbox.{HeldOutbox}
+use Rattle.vt_kernel.specs.inside.Held.{HeldWorker, StandsFor}
+use Rattle.vt_kernel.specs.inside.Guards.{IsDone, IsExecuteRefusal}
+use Rattle.vt_kernel.specs.inside.Steps.{part_after}
 use Rattle.vt_kernel.proofs.OwnSteps.{IsFound, own-execute, own-step, refusal-at}
 use Rattle.vt_kernel.proofs.LocalLemmas.{found-at, execute-step}
-use Rattle.vt_logs.specs.Events.{Logged, all_nodes, nodes_of as nodes_logged}
-use Rattle.vt_pool.specs.Logged.{placed}
-use Rattle.vt_pool.specs.View.{Placed, Stock, letters_to, number_at, process_in}
-use Rattle.vt_pool.specs.Steps.{executed_in, LeadsTo}
-use Rattle.vt_pool.specs.Inside.{IsWorkersLetter, IsHeard, ComesAfter, AreSettled, nodes_of, placed_rank, IsStockInside, IsPoolInside}
-use Rattle.vt_pool.specs.Share.{HeldShare, HeldPool, with_pool, seen, PoolLeadsTo}
-use Rattle.vt_pool.specs.Executing.{past_of, fired_by, pool_after_execute, IsFired, IsLedBy, HasExecuted, IsNotExecuted}
+use Rattle.vt_logs.specs.inside.Events.{Logged, all_nodes, nodes_of as nodes_logged}
+use Rattle.vt_pool.specs.inside.Logged.{placed}
+use Rattle.vt_pool.specs.inside.View.{Placed, Stock, letters_to, number_at, process_in}
+use Rattle.vt_pool.specs.inside.Steps.{executed_in, LeadsTo}
+use Rattle.vt_pool.specs.inside.Inside.{IsWorkersLetter, IsHeard, ComesAfter, AreSettled, nodes_of, placed_rank, IsStockInside, IsPoolInside}
+use Rattle.vt_pool.specs.inside.Share.{HeldShare, HeldPool, with_pool, seen, PoolLeadsTo}
+use Rattle.vt_pool.specs.inside.Executing.{past_of, fired_by, pool_after_execute, IsFired, IsLedBy, HasExecuted, IsNotExecuted}
 use Rattle.vt_pool.proofs.ViewLemmas.{number-place, number-own, place-own, get-in, are-from, to-first}
 use Rattle.vt_pool.proofs.GuardLemmas.{may-execute}
 use Rattle.vt_pool.proofs.InsideLemmas.{executed-inside}

@@ -3,10 +3,10 @@ use Rattle.std.proofs.Common.{◌≡◌, ◌∙◌, ℕ, ◌+◌, ◌<◌, List,
 use Rattle.std.proofs.lemmas.List.{take_more, length-take}
 use Rattle.std.proofs.lemmas.Option.{get_or_from_slice_get, slice_get_within}
 use Rattle.vt_model.specs.declared.settings.Config.{Config}
-use Rattle.vt_model.specs.Handler.{Handlers}
-use Rattle.vt_model.specs.Simulation.{Triple}
-use Rattle.vt_kernel.specs.Held.{held_values}
-use Rattle.vt_pool.specs.View.{Stock, number_at, processes_from}
+use Rattle.vt_model.specs.promise.Handler.{Handlers}
+use Rattle.vt_model.specs.promise.Simulation.{Triple}
+use Rattle.vt_kernel.specs.inside.Held.{held_values}
+use Rattle.vt_pool.specs.inside.View.{Stock, number_at, processes_from}
 
 module _ {S P K : Type 0} (handlers : Handlers S P K) (config : Config) (w : ℕ) (stock : Stock S P K) where
   -- one process more

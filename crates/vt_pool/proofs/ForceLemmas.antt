@@ -3,23 +3,24 @@ use Rattle.std.proofs.Common.{◌≡◌, ◌∙◌, ◌⊎◌, ℕ, ◌<◌, Boo
 use Rattle.std.specs.List.{last_or}
 use Rattle.std.specs.Option.{option_map_or}
 use Rattle.std.proofs.lemmas.List.{length-append}
-use Rattle.vt_key.specs.Order.{RankBefore, rank_before}
-use Rattle.vt_key.specs.Queues.{insert_letter, letter_rank}
-use Rattle.vt_key.specs.Lists.{Among}
+use Rattle.vt_key.specs.promise.Order.{rank_before}
+use Rattle.vt_key.specs.inside.Order.{RankBefore}
+use Rattle.vt_key.specs.promise.Queues.{insert_letter, letter_rank}
+use Rattle.vt_key.specs.promise.Lists.{Among}
 use Rattle.vt_key.specs.declared.order.Rank.{Rank}
 use Rattle.vt_key.specs.declared.letter.Letter.{Letter}
 use Rattle.vt_key.proofs.ListLemmas.{every-among, among-insert_ordered}
 use Rattle.vt_key.proofs.OrderLemmas.{rank-total, before-rank_before, rank_before-true}
-use Rattle.vt_model.specs.Handler.{Handlers}
-use Rattle.vt_model.specs.Simulation.{Triple}
+use Rattle.vt_model.specs.promise.Handler.{Handlers}
+use Rattle.vt_model.specs.promise.Simulation.{Triple}
 use Rattle.vt_steps.specs.declared.step.Step.TheVariants.{Undo}
 use Rattle.vt_past.specs.declared.event.PastEvent.{PastEvent}
-use Rattle.vt_lp.specs.Past.{must_undo_last}
-use Rattle.vt_lp.specs.Held.{way_back}
-use Rattle.vt_pool.specs.View.{Placed, past_at, without_last_at, letters_to, number_at}
-use Rattle.vt_pool.specs.Inside.{IsWorkersEvent, IsStampedApart, IsStockInside}
-use Rattle.vt_pool.specs.Share.{HeldShare, HeldPool, with_pool, seen, PoolLeadsTo}
-use Rattle.vt_pool.specs.Pool.{pool_after_undo, with_waiting}
+use Rattle.vt_lp.specs.inside.Past.{must_undo_last}
+use Rattle.vt_lp.specs.inside.Held.{way_back}
+use Rattle.vt_pool.specs.inside.View.{Placed, past_at, without_last_at, letters_to, number_at}
+use Rattle.vt_pool.specs.inside.Inside.{IsWorkersEvent, IsStampedApart, IsStockInside}
+use Rattle.vt_pool.specs.inside.Share.{HeldShare, HeldPool, with_pool, seen, PoolLeadsTo}
+use Rattle.vt_pool.specs.inside.Pool.{pool_after_undo, with_waiting}
 use Rattle.vt_pool.proofs.LeadLemmas.{leads-nothing, leads-step, leads-both}
 use Rattle.vt_pool.proofs.StepLemmas.{undo-done}
 use Rattle.vt_pool.proofs.GuardLemmas.{forced-by_message, forced-by_anti_message}

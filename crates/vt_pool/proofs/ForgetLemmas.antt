@@ -4,29 +4,29 @@ use Rattle.std.specs.List.{filter, flat_map, sum_by, AllByRecursion}
 use Rattle.std.proofs.lemmas.Bool.{cases_Bool, eqb-true, eqb-false}
 use Rattle.std.proofs.lemmas.Bool.Decides.{nat_tests}
 use Rattle.std.proofs.lemmas.List.Sums.{sum_by-append}
-use Rattle.vt_key.specs.Times.{Time}
-use Rattle.vt_key.specs.Order.{RankBefore}
+use Rattle.vt_key.specs.promise.Times.{Time}
+use Rattle.vt_key.specs.inside.Order.{RankBefore}
 use Rattle.vt_key.proofs.ListLemmas.{every-weaker, every-filter}
 use Rattle.vt_model.specs.declared.rows.Row.{Row}
 use Rattle.vt_model.specs.declared.settings.Config.{Config}
-use Rattle.vt_model.specs.Handler.{Handlers}
-use Rattle.vt_model.specs.Simulation.{Triple, simulation_of, rows_of}
-use Rattle.vt_steps.specs.Rows.{AreSameRows}
-use Rattle.vt_steps.specs.World.{LogicalProcess, Part, process_at}
-use Rattle.vt_steps.specs.PartSteps.{part_after_commit, rows_of_commit, ripe_rows}
-use Rattle.vt_steps.specs.StandsFor.{StandsForProcess, StandForProcesses}
+use Rattle.vt_model.specs.promise.Handler.{Handlers}
+use Rattle.vt_model.specs.promise.Simulation.{Triple, simulation_of, rows_of}
+use Rattle.vt_steps.specs.inside.Rows.{AreSameRows}
+use Rattle.vt_steps.specs.promise.World.{LogicalProcess, Part, process_at}
+use Rattle.vt_steps.specs.promise.PartSteps.{part_after_commit, rows_of_commit, ripe_rows}
+use Rattle.vt_steps.specs.inside.StandsFor.{StandsForProcess, StandForProcesses}
 use Rattle.vt_steps.proofs.letters.RankTimes.{rank-order-time}
 use Rattle.vt_steps.proofs.steps.CommitRows.{rows_of_processes}
 use Rattle.vt_past.specs.declared.event.PastEvent.{PastEvent}
-use Rattle.vt_lp.specs.Held.{HeldProcess, process_memory, IsRisingPast}
-use Rattle.vt_lp.specs.Ripe.{is_ripe, unripe_events, rows_of_ripe}
+use Rattle.vt_lp.specs.inside.Held.{HeldProcess, process_memory, IsRisingPast}
+use Rattle.vt_lp.specs.inside.Ripe.{is_ripe, unripe_events, rows_of_ripe}
 use Rattle.vt_lp.proofs.RipeLemmas.{commits, rows-ripe}
-use Rattle.vt_kernel.specs.Held.{HeldWorker, StandsFor, AreProcesses}
+use Rattle.vt_kernel.specs.inside.Held.{HeldWorker, StandsFor, AreProcesses}
 use Rattle.vt_kernel.proofs.CommitLemmas.{AllForgotten, stands-commit}
 use Rattle.vt_kernel.proofs.ProcessLemmas.{place-known}
-use Rattle.vt_pool.specs.View.{Placed, Stock, is_at, past_at, number_at, process_in, processes_from, processes_in}
-use Rattle.vt_pool.specs.Inside.{AreRisingPasts, IsWorkersEvent, placed_rank, IsStockInside}
-use Rattle.vt_pool.specs.Forgotten.{is_placed_ripe, unripe_placed, placed_rows, rows_of_placed, rows_of_held, forgotten_in}
+use Rattle.vt_pool.specs.inside.View.{Placed, Stock, is_at, past_at, number_at, process_in, processes_from, processes_in}
+use Rattle.vt_pool.specs.inside.Inside.{AreRisingPasts, IsWorkersEvent, placed_rank, IsStockInside}
+use Rattle.vt_pool.specs.inside.Forgotten.{is_placed_ripe, unripe_placed, placed_rows, rows_of_placed, rows_of_held, forgotten_in}
 use Rattle.vt_pool.proofs.ViewLemmas.{past-here, past-elsewhere, are-from, number-place, number-own}
 use Rattle.vt_pool.proofs.GuardLemmas.{every-past_at}
 

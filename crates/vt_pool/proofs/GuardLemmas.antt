@@ -2,9 +2,10 @@
 use Rattle.std.proofs.Common.{◌≡◌, ◌∙◌, ◌||◌, ℕ, Bool, true, false, not, List, [], ◌∷◌, refl, sym, ap, subst, inl, inr, Option, Some, None}
 use Rattle.std.specs.List.{last_or, list_any, AllByRecursion}
 use Rattle.std.proofs.lemmas.Bool.{cases_Bool, eqb-true}
-use Rattle.vt_key.specs.Order.{RankBefore, rank_before, rank_same}
-use Rattle.vt_key.specs.Queues.{letter_rank, has_rank}
-use Rattle.vt_key.specs.Lists.{Among}
+use Rattle.vt_key.specs.promise.Order.{rank_before, rank_same}
+use Rattle.vt_key.specs.inside.Order.{RankBefore}
+use Rattle.vt_key.specs.promise.Queues.{letter_rank, has_rank}
+use Rattle.vt_key.specs.promise.Lists.{Among}
 use Rattle.vt_key.specs.declared.order.Rank.{Rank}
 use Rattle.vt_key.specs.declared.letter.Letter.{Letter}
 use Rattle.vt_key.specs.declared.letter.Sign.{Sign}
@@ -13,10 +14,10 @@ use Rattle.vt_key.proofs.ListLemmas.{every-both, every-last, every-filter, every
 use Rattle.vt_key.proofs.OrderLemmas.{rank_same-true, before-rank_before}
 use Rattle.vt_model.specs.declared.settings.Config.{Config}
 use Rattle.vt_past.specs.declared.event.PastEvent.{PastEvent}
-use Rattle.vt_lp.specs.Guards.{may_come_after, holds_letter}
-use Rattle.vt_lp.specs.Past.{must_undo_last}
-use Rattle.vt_pool.specs.View.{Placed, is_at, past_at, is_to, letters_to, number_at}
-use Rattle.vt_pool.specs.Inside.{IsWorkersEvent, ComesAfter, placed_rank}
+use Rattle.vt_lp.specs.inside.Guards.{may_come_after, holds_letter}
+use Rattle.vt_lp.specs.inside.Past.{must_undo_last}
+use Rattle.vt_pool.specs.inside.View.{Placed, is_at, past_at, is_to, letters_to, number_at}
+use Rattle.vt_pool.specs.inside.Inside.{IsWorkersEvent, ComesAfter, placed_rank}
 use Rattle.vt_pool.proofs.ViewLemmas.{past-here, past-elsewhere, to-own}
 
 -- ---- lists and tests

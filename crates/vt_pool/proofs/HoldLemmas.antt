@@ -2,8 +2,8 @@
 use Rattle.std.proofs.Common.{◌≡◌, ◌∙◌, ◌||◌, ℕ, ◌<◌, Bool, true, false, List, [], ◌∷◌, map, refl, sym, ap, inl, inr, if◌then◌else◌, Some, None, slice_get}
 use Rattle.std.specs.List.{find, list_any, AllByRecursion}
 use Rattle.std.proofs.lemmas.Bool.{cases_Bool}
-use Rattle.vt_key.specs.Order.{stamp_same}
-use Rattle.vt_key.specs.Queues.{letter_rank}
+use Rattle.vt_key.specs.promise.Order.{stamp_same}
+use Rattle.vt_key.specs.promise.Queues.{letter_rank}
 use Rattle.vt_key.specs.declared.order.Stamp.{Stamp}
 use Rattle.vt_key.specs.declared.letter.Letter.{Letter}
 use Rattle.vt_key.specs.declared.letter.Sign.{Sign}
@@ -11,10 +11,10 @@ use Rattle.vt_key.specs.declared.letter.Sign.TheVariants.{Plus, Minus}
 use Rattle.vt_key.proofs.OrderLemmas.{stamp_same-true, same-stamp_same}
 use Rattle.vt_key.proofs.RisingLemmas.{first-false, second-false}
 use Rattle.vt_key.proofs.ListLemmas.{every-weaker, find-among, find-passes}
-use Rattle.vt_lp.specs.Guards.{holds_letter}
-use Rattle.vt_pool.specs.View.{Placed, Stock, letters_to, past_at}
-use Rattle.vt_pool.specs.Inside.{IsHeard, placed_rank}
-use Rattle.vt_pool.specs.Pool.{holds_stamp}
+use Rattle.vt_lp.specs.inside.Guards.{holds_letter}
+use Rattle.vt_pool.specs.inside.View.{Placed, Stock, letters_to, past_at}
+use Rattle.vt_pool.specs.inside.Inside.{IsHeard, placed_rank}
+use Rattle.vt_pool.specs.inside.Pool.{holds_stamp}
 use Rattle.vt_pool.proofs.GuardLemmas.{any-among, new-message, new-anti_message}
 use Rattle.vt_pool.proofs.KeptLemmas.{not-heard}
 

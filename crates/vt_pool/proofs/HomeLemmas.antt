@@ -2,19 +2,19 @@
 use Rattle.std.proofs.Common.{◌≡◌, ◌∙◌, ◌/◌, ◌%◌, ◌<◌, Bool, false, List, refl, sym, ap, subst, arith, Option, Some, None, IfSome}
 use Rattle.std.specs.List.{All, find}
 use Rattle.std.proofs.lemmas.Bool.{eqb-true}
-use Rattle.vt_key.specs.Queues.{letter_rank, without_first}
+use Rattle.vt_key.specs.promise.Queues.{letter_rank, without_first}
 use Rattle.vt_key.specs.declared.letter.Letter.{Letter}
 use Rattle.vt_key.specs.declared.letter.Sign.TheVariants.{Plus}
 use Rattle.vt_key.proofs.ListLemmas.{find-passes}
-use Rattle.vt_model.specs.Handler.{Handlers}
-use Rattle.vt_model.specs.Settings.{end_of}
-use Rattle.vt_steps.specs.PartSteps.{is_for}
+use Rattle.vt_model.specs.promise.Handler.{Handlers}
+use Rattle.vt_model.specs.promise.Settings.{end_of}
+use Rattle.vt_steps.specs.promise.PartSteps.{is_for}
 use Rattle.vt_steps.proofs.lists.Places.{get-within}
-use Rattle.vt_lp.specs.Held.{IsWithinRun}
+use Rattle.vt_lp.specs.inside.Held.{IsWithinRun}
 use Rattle.vt_kernel.proofs.DeliveryLemmas.{find-all}
-use Rattle.vt_pool.specs.Inside.{IsHeard, IsStockInside}
-use Rattle.vt_pool.specs.Share.{HeldPool, PoolLeadsTo, with_pool}
-use Rattle.vt_pool.specs.Pool.{MayCome, holds_stamp, weight_of, with_letter}
+use Rattle.vt_pool.specs.inside.Inside.{IsHeard, IsStockInside}
+use Rattle.vt_pool.specs.inside.Share.{HeldPool, PoolLeadsTo, with_pool}
+use Rattle.vt_pool.specs.inside.Pool.{MayCome, holds_stamp, weight_of, with_letter}
 use Rattle.vt_pool.proofs.ReceiveLemmas.{number-of, place-there}
 use Rattle.vt_pool.proofs.ShareLemmas.{home-leads}
 use Rattle.vt_outbox.proofs.OutboxLemmas.{length-without}

@@ -3,9 +3,11 @@ use Rattle.std.proofs.Common.{◌≡◌, ◌∙◌, ◌&&◌, not, ℕ, ◌%◌,
 use Rattle.std.specs.List.{last_or, list_any, AllByRecursion}
 use Rattle.std.proofs.Math.ListN.{length-set}
 use Rattle.std.proofs.lemmas.Bool.{cases_Bool, eqb-true}
-use Rattle.vt_key.specs.Order.{RankBefore, rank_before}
-use Rattle.vt_key.specs.Queues.{insert_ordered, insert_letter, without_first, letter_rank, has_rank, holds_rank, IsRising}
-use Rattle.vt_key.specs.Lists.{IsRisingBy}
+use Rattle.vt_key.specs.promise.Order.{rank_before}
+use Rattle.vt_key.specs.inside.Order.{RankBefore}
+use Rattle.vt_key.specs.promise.Queues.{insert_ordered, insert_letter, without_first, letter_rank, has_rank}
+use Rattle.vt_key.specs.inside.Queues.{holds_rank, IsRising}
+use Rattle.vt_key.specs.promise.Lists.{IsRisingBy}
 use Rattle.vt_key.specs.declared.limits.TheConstants.{MAX_COUNT}
 use Rattle.vt_key.specs.declared.order.Rank.{Rank}
 use Rattle.vt_key.specs.declared.letter.Letter.{Letter}
@@ -13,12 +15,12 @@ use Rattle.vt_key.specs.declared.letter.Sign.TheVariants.{Plus, Minus}
 use Rattle.vt_key.proofs.ListLemmas.{every-append, every-left, every-right, every-put, every-both, every-weaker, every-insert_ordered, every-without_first}
 use Rattle.vt_key.proofs.RisingLemmas.{IsRising-insert, IsRising-without}
 use Rattle.vt_model.specs.declared.settings.Config.{Config}
-use Rattle.vt_model.specs.Simulation.{Triple}
+use Rattle.vt_model.specs.promise.Simulation.{Triple}
 use Rattle.vt_past.specs.declared.event.PastEvent.{PastEvent}
-use Rattle.vt_lp.specs.Held.{IsOwnEvent}
-use Rattle.vt_pool.specs.View.{Placed, Stock, is_at, past_at, without_last_at, number_at, HaveOwnStamps}
-use Rattle.vt_pool.specs.Steps.{executed_in, undone_in, cancelled_in}
-use Rattle.vt_pool.specs.Inside.{IsWorkersLetter, IsWorkersEvent, IsStampedApart, ComesAfter, placed_rank, IsStockInside}
+use Rattle.vt_lp.specs.inside.Held.{IsOwnEvent}
+use Rattle.vt_pool.specs.inside.View.{Placed, Stock, is_at, past_at, without_last_at, number_at, HaveOwnStamps}
+use Rattle.vt_pool.specs.inside.Steps.{executed_in, undone_in, cancelled_in}
+use Rattle.vt_pool.specs.inside.Inside.{IsWorkersLetter, IsWorkersEvent, IsStampedApart, ComesAfter, placed_rank, IsStockInside}
 use Rattle.vt_pool.proofs.ViewLemmas.{number-own, past-here, past-elsewhere, none-at, last-any}
 use Rattle.vt_pool.proofs.GuardLemmas.{none-any, differs-by_stamp}
 

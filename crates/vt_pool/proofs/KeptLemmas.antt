@@ -6,8 +6,8 @@ use Rattle.std.proofs.lemmas.List.Sums.{sum_by-append, sum_by-cons}
 use Rattle.vt_key.specs.declared.order.Stamp.{Stamp}
 use Rattle.vt_past.specs.declared.event.PastEvent.{PastEvent}
 use Rattle.vt_steps.proofs.lists.Places.{get-put_same, get-put_other}
-use Rattle.vt_pool.specs.View.{Placed, past_at, without_last_at}
-use Rattle.vt_pool.specs.Inside.{IsHeard, nodes_of}
+use Rattle.vt_pool.specs.inside.View.{Placed, past_at, without_last_at}
+use Rattle.vt_pool.specs.inside.Inside.{IsHeard, nodes_of}
 use Rattle.vt_pool.proofs.InsideLemmas.{last-there}
 
 -- ---- nodes

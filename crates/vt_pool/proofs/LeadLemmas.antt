@@ -2,15 +2,15 @@
 use Rattle.std.proofs.Common.{◌≡◌, ◌∙◌, ℕ, List, [], ◌∷◌, ◌++◌, refl, sym, ap, Option, Some, None}
 use Rattle.std.specs.Option.{option_and_then}
 use Rattle.vt_model.specs.declared.settings.Config.{Config}
-use Rattle.vt_model.specs.Handler.{Handlers}
-use Rattle.vt_model.specs.Simulation.{Simulation, simulation_of}
+use Rattle.vt_model.specs.promise.Handler.{Handlers}
+use Rattle.vt_model.specs.promise.Simulation.{Simulation, simulation_of}
 use Rattle.vt_steps.specs.declared.step.Step.{Step}
-use Rattle.vt_steps.specs.World.{Part}
-use Rattle.vt_steps.specs.Cells.{local_step, local_steps}
-use Rattle.vt_kernel.specs.Held.{HeldWorker, StandsFor}
-use Rattle.vt_kernel.specs.Guards.{IsDone}
-use Rattle.vt_kernel.specs.Steps.{part_after}
-use Rattle.vt_pool.specs.Steps.{LeadsTo}
+use Rattle.vt_steps.specs.promise.World.{Part}
+use Rattle.vt_steps.specs.inside.Cells.{local_step, local_steps}
+use Rattle.vt_kernel.specs.inside.Held.{HeldWorker, StandsFor}
+use Rattle.vt_kernel.specs.inside.Guards.{IsDone}
+use Rattle.vt_kernel.specs.inside.Steps.{part_after}
+use Rattle.vt_pool.specs.inside.Steps.{LeadsTo}
 
 module _ {S P : Type 0} (sim : Simulation S P) (w : ℕ) where
   -- a list of steps and then another

@@ -2,17 +2,17 @@
 use Rattle.std.proofs.Common.{◌≡◌, ◌∙◌, ℕ, List, [], ◌∷◌, slice_get, refl, sym, arith}
 use Rattle.std.specs.List.{AllByRecursion}
 use Rattle.std.specs.Option.{option_map, option_map_or}
-use Rattle.vt_key.specs.Times.{Time, TimeAtMost, earlier}
-use Rattle.vt_key.specs.Queues.{IsRising}
+use Rattle.vt_key.specs.promise.Times.{Time, TimeAtMost, earlier}
+use Rattle.vt_key.specs.inside.Queues.{IsRising}
 use Rattle.vt_key.specs.declared.letter.Letter.{Letter}
 use Rattle.vt_key.specs.declared.letter.Sign.{Sign}
 use Rattle.vt_key.proofs.ListLemmas.{every-weaker}
 use Rattle.vt_model.specs.declared.settings.Config.{Config}
-use Rattle.vt_model.specs.Settings.{end_of}
-use Rattle.vt_steps.specs.Letters.{letter_time, least_time}
+use Rattle.vt_model.specs.promise.Settings.{end_of}
+use Rattle.vt_steps.specs.promise.Letters.{letter_time, least_time}
 use Rattle.vt_steps.proofs.TimeLemmas.{earlier_first}
 use Rattle.vt_lp.proofs.RisingLemmas.{least_time-rising}
-use Rattle.vt_pool.specs.Inside.{IsWorkersLetter}
+use Rattle.vt_pool.specs.inside.Inside.{IsWorkersLetter}
 
 -- it is the first one's, where all are before the end
 pub least-rising : {P : Type 0} (end : Time) (letters : List (Letter P)) → IsRising letters → AllByRecursion (λ letter. TimeAtMost (letter_time letter) end) letters

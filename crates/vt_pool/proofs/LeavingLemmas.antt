@@ -1,13 +1,13 @@
 -- How the fields of a pool go together with another outbox and other nodes.
 use Rattle.std.proofs.Common.{◌≡◌, ℕ, ◌≤◌, List}
 use Rattle.std.specs.List.{sum_by}
-use Rattle.vt_key.specs.Times.{Time}
-use Rattle.vt_stream.specs.Words.{Stream}
+use Rattle.vt_key.specs.promise.Times.{Time}
+use Rattle.vt_stream.specs.inside.Words.{Stream}
 use Rattle.vt_model.specs.declared.settings.Config.{Config}
-use Rattle.vt_lp.specs.Held.{AllWithinRun}
-use Rattle.vt_outbox.specs.Outbox.{HeldOutbox}
-use Rattle.vt_pool.specs.View.{Stock}
-use Rattle.vt_pool.specs.Inside.{nodes_of, IsPoolInside}
+use Rattle.vt_lp.specs.inside.Held.{AllWithinRun}
+use Rattle.vt_outbox.specs.inside.Outbox.{HeldOutbox}
+use Rattle.vt_pool.specs.inside.View.{Stock}
+use Rattle.vt_pool.specs.inside.Inside.{nodes_of, IsPoolInside}
 
 module _ {S P K : Type 0} {config : Config} {w : ℕ} {stock : Stock S P K} {streams : List Stream} {outbox : HeldOutbox P} {serial : ℕ} {reached : Time} {heard : List ℕ} {kept : ℕ} where
   pub pool-with : (letters : HeldOutbox P) (nodes : ℕ) → AllWithinRun config letters.letters → letters.config ≡ config → sum_by nodes_of stock.past ≤ nodes

@@ -2,7 +2,7 @@
 use Rattle.std.proofs.Common.{◌≡◌, ◌∙◌, ℕ, ◌+◌, ◌<◌, ◌≤◌, Bool, true, false, not, ◌&&◌, ◌||◌, if◌then◌else◌, List, [], ◌∷◌, map, length, refl, sym, ap, subst, arith, Option, Some, None, MatchOption}
 use Rattle.std.specs.List.{filter, last_or, list_any, sum_by, AllByRecursion}
 use Rattle.std.specs.Option.{option_map, option_map_or}
-use Rattle.vt_key.specs.Order.{rank_before}
+use Rattle.vt_key.specs.promise.Order.{rank_before}
 use Rattle.vt_key.specs.declared.order.Rank.{Rank}
 use Rattle.vt_key.specs.declared.letter.Sign.TheVariants.{Minus}
 use Rattle.vt_key.proofs.ListLemmas.{every-filter, every-last}
@@ -12,10 +12,10 @@ use Rattle.vt_lp.proofs.Stamping.{length-letters}
 use Rattle.vt_kernel.proofs.ProcessLemmas.{place-known}
 use Rattle.vt_model.specs.declared.sending.Sent.{Sent}
 use Rattle.vt_logs.specs.declared.entry.Entry.{Entry}
-use Rattle.vt_logs.specs.Events.{Logged, is_of, events_of, last_of, without_last}
-use Rattle.vt_pool.specs.Logged.{placed}
-use Rattle.vt_pool.specs.View.{Placed, Stock, is_at, past_at, without_last_at, number_at}
-use Rattle.vt_pool.specs.Inside.{IsWorkersEvent, IsStockInside, nodes_of}
+use Rattle.vt_logs.specs.inside.Events.{Logged, is_of, events_of, last_of, without_last}
+use Rattle.vt_pool.specs.inside.Logged.{placed}
+use Rattle.vt_pool.specs.inside.View.{Placed, Stock, is_at, past_at, without_last_at, number_at}
+use Rattle.vt_pool.specs.inside.Inside.{IsWorkersEvent, IsStockInside, nodes_of}
 use Rattle.vt_pool.proofs.ViewLemmas.{number-place, number-own}
 use Rattle.vt_pool.proofs.InsideLemmas.{last-there, every-last_there}
 use Rattle.vt_pool.proofs.KeptLemmas.{nodes-less}

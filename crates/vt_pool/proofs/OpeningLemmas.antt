@@ -2,25 +2,25 @@
 use Rattle.std.proofs.Common.{◌≡◌, ◌∙◌, ℕ, ◌+◌, ◌<◌, ◌≤◌, List, [], ◌∷◌, ◌++◌, map, replicate, length, refl, sym, subst, arith}
 use Rattle.std.specs.List.{AllByRecursion}
 use Rattle.std.proofs.lemmas.List.{length-map}
-use Rattle.vt_key.specs.Times.{Time}
+use Rattle.vt_key.specs.promise.Times.{Time}
 use Rattle.vt_key.specs.declared.limits.TheConstants.{MAX_COUNT}
 use Rattle.vt_key.specs.declared.letter.Sign.TheVariants.{Plus}
 use Rattle.vt_model.specs.declared.process.Process.{Process}
 use Rattle.vt_model.specs.declared.settings.Config.{Config}
-use Rattle.vt_model.specs.Handler.{Handlers}
-use Rattle.vt_model.specs.Process.{triple_at}
-use Rattle.vt_model.specs.Simulation.{Triple, simulation_of}
-use Rattle.vt_steps.specs.Letters.{signed}
-use Rattle.vt_steps.specs.Cells.{local_steps}
-use Rattle.vt_steps.specs.StandsFor.{StandForProcesses}
-use Rattle.vt_steps.specs.World.{Part, process_count, start_sends, start_events, opening_part}
-use Rattle.vt_lp.specs.Held.{AllWithinRun, process_memory, opening_process}
-use Rattle.vt_outbox.specs.Outbox.{HeldOutbox}
-use Rattle.vt_kernel.specs.Held.{StandsFor}
-use Rattle.vt_pool.specs.View.{Stock, number_at, processes_from}
-use Rattle.vt_pool.specs.Inside.{AreOwnStreams, IsStockInside, IsPoolInside}
-use Rattle.vt_pool.specs.Share.{HeldPool, with_pool, seen, PoolLeadsTo}
-use Rattle.vt_pool.specs.Opening.{StandsForOpening, IsLedFromOpening, IsStarted, AreStarted}
+use Rattle.vt_model.specs.promise.Handler.{Handlers}
+use Rattle.vt_model.specs.inside.Process.{triple_at}
+use Rattle.vt_model.specs.promise.Simulation.{Triple, simulation_of}
+use Rattle.vt_steps.specs.promise.Letters.{signed}
+use Rattle.vt_steps.specs.inside.Cells.{local_steps}
+use Rattle.vt_steps.specs.inside.StandsFor.{StandForProcesses}
+use Rattle.vt_steps.specs.promise.World.{Part, process_count, start_sends, start_events, opening_part}
+use Rattle.vt_lp.specs.inside.Held.{AllWithinRun, process_memory, opening_process}
+use Rattle.vt_outbox.specs.inside.Outbox.{HeldOutbox}
+use Rattle.vt_kernel.specs.inside.Held.{StandsFor}
+use Rattle.vt_pool.specs.inside.View.{Stock, number_at, processes_from}
+use Rattle.vt_pool.specs.inside.Inside.{AreOwnStreams, IsStockInside, IsPoolInside}
+use Rattle.vt_pool.specs.inside.Share.{HeldPool, with_pool, seen, PoolLeadsTo}
+use Rattle.vt_pool.specs.inside.Opening.{StandsForOpening, IsLedFromOpening, IsStarted, AreStarted}
 
 -- where a process stands
 abbrev pub standing : {M S P K : Type 0} → Process M S P K → Triple S

@@ -2,28 +2,28 @@
 use Rattle.std.proofs.Common.{◌≡◌, ◌∙◌, ℕ, Bool, zero, suc, ◌+◌, ◌≤◌, List, [], ◌∷◌, ◌++◌, length, sym, ap, subst, arith, Some, None, slice_get, slice_set}
 use Rattle.std.specs.List.{last_or, AllByRecursion}
 use Rattle.std.proofs.lemmas.List.Elements.{All-append}
-use Rattle.vt_key.specs.Times.{Time, TimeAtMost}
-use Rattle.vt_key.specs.Order.{rank_before}
-use Rattle.vt_key.specs.Queues.{insert_letter, without_first, letter_rank, has_rank}
+use Rattle.vt_key.specs.promise.Times.{Time, TimeAtMost}
+use Rattle.vt_key.specs.promise.Order.{rank_before}
+use Rattle.vt_key.specs.promise.Queues.{insert_letter, without_first, letter_rank, has_rank}
 use Rattle.vt_key.specs.declared.limits.TheConstants.{MAX_COUNT}
 use Rattle.vt_key.specs.declared.order.Rank.{Rank}
 use Rattle.vt_key.specs.declared.letter.Letter.{Letter}
 use Rattle.vt_key.specs.declared.letter.Sign.TheVariants.{Plus, Minus}
 use Rattle.vt_key.proofs.ListLemmas.{every-weaker, every-insert_ordered, every-without_first}
-use Rattle.vt_stream.specs.Words.{Stream}
+use Rattle.vt_stream.specs.inside.Words.{Stream}
 use Rattle.vt_model.specs.declared.settings.Config.{Config}
-use Rattle.vt_model.specs.Process.{IsProcessStream}
-use Rattle.vt_model.specs.Settings.{end_of}
-use Rattle.vt_model.specs.Simulation.{Triple}
+use Rattle.vt_model.specs.inside.Process.{IsProcessStream}
+use Rattle.vt_model.specs.promise.Settings.{end_of}
+use Rattle.vt_model.specs.promise.Simulation.{Triple}
 use Rattle.vt_past.specs.declared.event.PastEvent.{PastEvent}
-use Rattle.vt_lp.specs.Held.{AllWithinRun, IsWithinRun}
+use Rattle.vt_lp.specs.inside.Held.{AllWithinRun, IsWithinRun}
 use Rattle.vt_lp.proofs.UndoLemmas.{ready-within}
-use Rattle.vt_outbox.specs.Outbox.{HeldOutbox}
+use Rattle.vt_outbox.specs.inside.Outbox.{HeldOutbox}
 use Rattle.vt_kernel.proofs.DeliveryLemmas.{without-all}
 use Rattle.vt_key.specs.declared.order.Stamp.{Stamp}
-use Rattle.vt_pool.specs.View.{Placed, Stock, past_at, number_at}
-use Rattle.vt_pool.specs.Steps.{undone_in}
-use Rattle.vt_pool.specs.Inside.{AreOwnStreams, IsWorkersLetter, IsWorkersEvent, IsHeard, placed_rank, IsPoolInside}
+use Rattle.vt_pool.specs.inside.View.{Placed, Stock, past_at, number_at}
+use Rattle.vt_pool.specs.inside.Steps.{undone_in}
+use Rattle.vt_pool.specs.inside.Inside.{AreOwnStreams, IsWorkersLetter, IsWorkersEvent, IsHeard, placed_rank, IsPoolInside}
 use Rattle.vt_pool.proofs.InsideLemmas.{last-there, every-last_there, every-left_there, undone-inside, message-inside, anti_message-inside, cancelled-inside}
 use Rattle.vt_pool.proofs.KeptLemmas.{nodes-less}
 

@@ -2,24 +2,24 @@
 use Rattle.std.proofs.Common.{◌≡◌, ◌∙◌, ◌⊎◌, ℕ, ◌+◌, ◌*◌, ◌/◌, ◌%◌, ◌<◌, ◌≤◌, false, List, length, refl, sym, ap, subst, arith, inl, inr}
 use Rattle.std.specs.List.{AllByRecursion}
 use Rattle.std.proofs.Math.Nat.{div-add-mod'}
-use Rattle.vt_key.specs.Order.{rank_before}
-use Rattle.vt_key.specs.Queues.{insert_letter, letter_rank}
-use Rattle.vt_key.specs.Lists.{Among}
+use Rattle.vt_key.specs.promise.Order.{rank_before}
+use Rattle.vt_key.specs.promise.Queues.{insert_letter, letter_rank}
+use Rattle.vt_key.specs.promise.Lists.{Among}
 use Rattle.vt_key.specs.declared.order.Rank.{Rank}
 use Rattle.vt_key.specs.declared.letter.Letter.{Letter}
 use Rattle.vt_key.specs.declared.letter.Sign.{Sign}
 use Rattle.vt_key.specs.declared.letter.Sign.TheVariants.{Plus, Minus}
 use Rattle.vt_key.proofs.ListLemmas.{among-insert_ordered}
 use Rattle.vt_model.specs.declared.settings.Config.{Config}
-use Rattle.vt_model.specs.Handler.{Handlers}
+use Rattle.vt_model.specs.promise.Handler.{Handlers}
 use Rattle.vt_steps.proofs.lists.Places.{get-within}
 use Rattle.vt_kernel.proofs.ProcessLemmas.{place-known}
-use Rattle.vt_pool.specs.View.{Placed, Stock, number_at}
-use Rattle.vt_pool.specs.Inside.{AreSettled, IsStockInside, placed_rank}
-use Rattle.vt_pool.specs.Steps.{received_in}
-use Rattle.vt_pool.specs.Pool.{HasCancelled, MayCome, holds_stamp, with_letter, with_pending, with_waiting}
+use Rattle.vt_pool.specs.inside.View.{Placed, Stock, number_at}
+use Rattle.vt_pool.specs.inside.Inside.{AreSettled, IsStockInside, placed_rank}
+use Rattle.vt_pool.specs.inside.Steps.{received_in}
+use Rattle.vt_pool.specs.inside.Pool.{HasCancelled, MayCome, holds_stamp, with_letter, with_pending, with_waiting}
 use Rattle.vt_pool.proofs.HoldLemmas.{new-pending, new-past, new-waiting}
-use Rattle.vt_pool.specs.Share.{HeldPool, with_pool, PoolLeadsTo}
+use Rattle.vt_pool.specs.inside.Share.{HeldPool, with_pool, PoolLeadsTo}
 use Rattle.vt_pool.proofs.SettleLemmas.{cancelled-settled}
 use Rattle.vt_pool.proofs.ShareLemmas.{cancel-leads}
 use Rattle.vt_pool.proofs.ForceLemmas.{pool-nothing}

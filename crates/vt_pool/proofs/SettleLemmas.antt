@@ -2,21 +2,23 @@
 use Rattle.std.proofs.Common.{◌≡◌, ◌∙◌, ◌⊎◌, ℕ, ◌/◌, ◌<◌, Bool, true, false, List, [], ◌∷◌, ◌++◌, refl, sym, ap, subst, inl, inr, if◌then◌else◌, Option, Some, None, suc, arith}
 use Rattle.std.specs.List.{find, last_or, list_any, AllByRecursion}
 use Rattle.std.proofs.lemmas.Bool.{cases_Bool, eq-eqb}
-use Rattle.vt_key.specs.Order.{RankBefore, rank_before}
-use Rattle.vt_key.specs.Queues.{insert_letter, without_first, letter_rank, has_rank, holds_rank, IsRising}
-use Rattle.vt_key.specs.Lists.{Among}
+use Rattle.vt_key.specs.promise.Order.{rank_before}
+use Rattle.vt_key.specs.inside.Order.{RankBefore}
+use Rattle.vt_key.specs.promise.Queues.{insert_letter, without_first, letter_rank, has_rank}
+use Rattle.vt_key.specs.inside.Queues.{holds_rank, IsRising}
+use Rattle.vt_key.specs.promise.Lists.{Among}
 use Rattle.vt_key.specs.declared.order.Rank.{Rank}
 use Rattle.vt_key.specs.declared.letter.Letter.{Letter}
 use Rattle.vt_key.proofs.ListLemmas.{every-append, every-right, every-both, every-weaker, every-all, every-among, every-insert_ordered, every-without_first, same-element, no_last}
 use Rattle.vt_key.proofs.OrderLemmas.{rank-transitive, same-rank_same}
 use Rattle.vt_key.proofs.RisingLemmas.{first-false, second-false}
 use Rattle.vt_model.specs.declared.settings.Config.{Config}
-use Rattle.vt_model.specs.Simulation.{Triple}
+use Rattle.vt_model.specs.promise.Simulation.{Triple}
 use Rattle.vt_past.specs.declared.event.PastEvent.{PastEvent}
-use Rattle.vt_pool.specs.View.{Placed, Stock, is_at, past_at, without_last_at, number_at}
-use Rattle.vt_pool.specs.Steps.{executed_in, undone_in, cancelled_in}
-use Rattle.vt_pool.specs.Inside.{IsWorkersEvent, AreRisingPasts, ComesAfter, AreSettled, placed_rank, IsStockInside}
-use Rattle.vt_pool.specs.Share.{AreSettledBut}
+use Rattle.vt_pool.specs.inside.View.{Placed, Stock, is_at, past_at, without_last_at, number_at}
+use Rattle.vt_pool.specs.inside.Steps.{executed_in, undone_in, cancelled_in}
+use Rattle.vt_pool.specs.inside.Inside.{IsWorkersEvent, AreRisingPasts, ComesAfter, AreSettled, placed_rank, IsStockInside}
+use Rattle.vt_pool.specs.inside.Share.{AreSettledBut}
 use Rattle.vt_pool.proofs.ViewLemmas.{number-place, past-here, past-elsewhere}
 use Rattle.vt_pool.proofs.InsideLemmas.{IsLastThere, last-there, every-left_there, every-last_there}
 

@@ -1,23 +1,23 @@
 -- Steps on what a worker keeps of its processes lead from each part that it stood for to one that it stands for.
 use Rattle.std.proofs.Common.{◌≡◌, ℕ, ◌<◌, false, refl, subst, Some, slice_get}
 use Rattle.std.specs.List.{find, remove}
-use Rattle.vt_key.specs.Queues.{without_first, has_rank, letter_rank}
+use Rattle.vt_key.specs.promise.Queues.{without_first, has_rank, letter_rank}
 use Rattle.vt_key.specs.declared.order.Rank.{Rank}
 use Rattle.vt_key.specs.declared.letter.Letter.{Letter}
 use Rattle.vt_key.specs.declared.letter.Mail.{Mail}
 use Rattle.vt_key.specs.declared.letter.Sign.TheVariants.{Plus}
 use Rattle.vt_key.proofs.ListLemmas.{every-find}
-use Rattle.vt_model.specs.Handler.{Handlers}
-use Rattle.vt_model.specs.Simulation.{Triple}
+use Rattle.vt_model.specs.promise.Handler.{Handlers}
+use Rattle.vt_model.specs.promise.Simulation.{Triple}
 use Rattle.vt_steps.specs.declared.step.Step.TheVariants.{Cancel, Home, Accept}
-use Rattle.vt_steps.specs.PartSteps.{is_for}
-use Rattle.vt_pool.specs.View.{number_at}
-use Rattle.vt_pool.specs.Steps.{cancelled_in, received_in, LeadsTo}
-use Rattle.vt_pool.specs.Inside.{IsWorkersLetter, IsStockInside}
-use Rattle.vt_pool.specs.Share.{HeldShare, seen}
+use Rattle.vt_steps.specs.promise.PartSteps.{is_for}
+use Rattle.vt_pool.specs.inside.View.{number_at}
+use Rattle.vt_pool.specs.inside.Steps.{cancelled_in, received_in, LeadsTo}
+use Rattle.vt_pool.specs.inside.Inside.{IsWorkersLetter, IsStockInside}
+use Rattle.vt_pool.specs.inside.Share.{HeldShare, seen}
 use Rattle.vt_pool.proofs.LeadLemmas.{leads-step}
 use Rattle.vt_pool.proofs.StepLemmas.{cancel-done, home-done, accept-done}
-use Rattle.vt_pool.specs.Pool.{holds_stamp}
+use Rattle.vt_pool.specs.inside.Pool.{holds_stamp}
 use Rattle.vt_pool.proofs.HoldLemmas.{new-letter}
 
 -- the process of a letter of worker w is at this index

@@ -2,17 +2,17 @@
 use Rattle.std.proofs.Common.{◌≡◌, ◌∙◌, ◌⊎◌, ℕ, Bool, true, false, List, [], ◌∷◌, refl, sym, ap, inl, inr, if◌then◌else◌, Some}
 use Rattle.std.specs.List.{find, AllByRecursion}
 use Rattle.std.proofs.lemmas.Bool.{cases_Bool}
-use Rattle.vt_key.specs.Order.{key_same}
-use Rattle.vt_key.specs.Queues.{has_rank, has_stamp, letter_rank, without_first}
+use Rattle.vt_key.specs.promise.Order.{key_same}
+use Rattle.vt_key.specs.promise.Queues.{has_rank, has_stamp, letter_rank, without_first}
 use Rattle.vt_key.specs.declared.order.Rank.{Rank}
 use Rattle.vt_key.specs.declared.order.Stamp.{Stamp}
 use Rattle.vt_key.specs.declared.letter.Letter.{Letter}
-use Rattle.vt_key.specs.Lists.{Among}
+use Rattle.vt_key.specs.promise.Lists.{Among}
 use Rattle.vt_key.proofs.ListLemmas.{every-all, find-among, find-passes, rising-filter, same-element}
 use Rattle.vt_key.proofs.OrderLemmas.{rank_same-true, stamp_same-true, same-stamp_same, same-key_same}
 use Rattle.vt_pending.proofs.Filters.{find-filter}
-use Rattle.vt_steps.specs.ProcessSteps.{are_opposite, can_annihilate}
-use Rattle.vt_pool.specs.View.{is_to, letters_to, HaveOwnStamps}
+use Rattle.vt_steps.specs.promise.ProcessSteps.{are_opposite, can_annihilate}
+use Rattle.vt_pool.specs.inside.View.{is_to, letters_to, HaveOwnStamps}
 use Rattle.vt_pool.proofs.ViewLemmas.{to-own}
 
 -- ---- tests that agree

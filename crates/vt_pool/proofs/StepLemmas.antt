@@ -1,39 +1,40 @@
 -- Steps at one process, on what a worker keeps of all of them together, as steps of the worker's part.
 use Rattle.std.proofs.Common.{◌≡◌, ◌∙◌, ℕ, ◌+◌, ◌*◌, ◌/◌, ◌<◌, Bool, true, false, if◌then◌else◌, List, [], ◌∷◌, ◌++◌, map, length, refl, sym, ap, subst, Option, Some, None, slice_get, slice_set}
 use Rattle.std.specs.List.{find, last_or, remove}
-use Rattle.vt_key.specs.Queues.{insert_letter, without_first, has_rank, IsRising}
+use Rattle.vt_key.specs.promise.Queues.{insert_letter, without_first, has_rank}
+use Rattle.vt_key.specs.inside.Queues.{IsRising}
 use Rattle.vt_key.specs.declared.order.Rank.{Rank}
 use Rattle.vt_key.specs.declared.letter.Letter.{Letter}
 use Rattle.vt_key.specs.declared.letter.Mail.{Mail}
 use Rattle.vt_key.specs.declared.letter.Sign.{Sign}
 use Rattle.vt_key.specs.declared.letter.Sign.TheVariants.{Plus, Minus}
 use Rattle.vt_model.specs.declared.rows.Record.{Record}
-use Rattle.vt_model.specs.Handler.{Handlers}
-use Rattle.vt_model.specs.Simulation.{Triple, simulation_of}
+use Rattle.vt_model.specs.promise.Handler.{Handlers}
+use Rattle.vt_model.specs.promise.Simulation.{Triple, simulation_of}
 use Rattle.vt_steps.specs.declared.step.Step.TheVariants.{Execute, Undo, Cancel, Home, Accept}
-use Rattle.vt_steps.specs.Letters.{unstamped, stamped, signed}
-use Rattle.vt_steps.specs.World.{LogicalProcess, Part}
-use Rattle.vt_steps.specs.ProcessSteps.{ProcessEffect, execute_process, undo_process, cancel_process, accept_process}
-use Rattle.vt_steps.specs.PartSteps.{at_process, is_for}
-use Rattle.vt_steps.specs.StandsFor.{IsRemembered}
+use Rattle.vt_steps.specs.promise.Letters.{unstamped, stamped, signed}
+use Rattle.vt_steps.specs.promise.World.{LogicalProcess, Part}
+use Rattle.vt_steps.specs.promise.ProcessSteps.{ProcessEffect, execute_process, undo_process, cancel_process, accept_process}
+use Rattle.vt_steps.specs.promise.PartSteps.{at_process, is_for}
+use Rattle.vt_steps.specs.inside.StandsFor.{IsRemembered}
 use Rattle.vt_past.specs.declared.event.PastEvent.{PastEvent}
 use Rattle.vt_past.specs.declared.event.UndoEntry.{UndoEntry}
-use Rattle.vt_past.specs.Events.{past_event}
-use Rattle.vt_lp.specs.Held.{HeldProcess, StandsFor as ProcessStandsFor, remembered, way_back, IsOwnEvent}
-use Rattle.vt_lp.specs.Guards.{IsDone as ProcessIsDone, holds_letter, may_come_after}
-use Rattle.vt_lp.specs.Past.{must_undo_last, ready_event}
+use Rattle.vt_past.specs.inside.Events.{past_event}
+use Rattle.vt_lp.specs.inside.Held.{HeldProcess, StandsFor as ProcessStandsFor, remembered, way_back, IsOwnEvent}
+use Rattle.vt_lp.specs.inside.Guards.{IsDone as ProcessIsDone, holds_letter, may_come_after}
+use Rattle.vt_lp.specs.inside.Past.{must_undo_last, ready_event}
 use Rattle.vt_lp.proofs.ExecuteLemmas.{executes}
 use Rattle.vt_lp.proofs.UndoLemmas.{undoes}
 use Rattle.vt_lp.proofs.CancelLemmas.{cancels}
 use Rattle.vt_lp.proofs.AcceptLemmas.{accepts-message, accepts-anti_message}
-use Rattle.vt_kernel.specs.Held.{HeldWorker, StandsFor, AreProcesses}
-use Rattle.vt_kernel.specs.Guards.{IsDone}
-use Rattle.vt_kernel.specs.Steps.{part_after}
+use Rattle.vt_kernel.specs.inside.Held.{HeldWorker, StandsFor, AreProcesses}
+use Rattle.vt_kernel.specs.inside.Guards.{IsDone}
+use Rattle.vt_kernel.specs.inside.Steps.{part_after}
 use Rattle.vt_kernel.proofs.OwnSteps.{at_own, own-execute}
 use Rattle.vt_kernel.proofs.LocalLemmas.{IsOwnPlace, found-at, at-found-done, no-serial, plain-done, execute-step}
 use Rattle.vt_kernel.proofs.DeliveryLemmas.{home-done as home-done-at, accept-done as accept-done-at}
-use Rattle.vt_pool.specs.View.{Stock, past_at, letters_to, number_at, process_in, processes_in, HaveOwnStamps}
-use Rattle.vt_pool.specs.Steps.{executed_in, undone_in, cancelled_in, received_in}
+use Rattle.vt_pool.specs.inside.View.{Stock, past_at, letters_to, number_at, process_in, processes_in, HaveOwnStamps}
+use Rattle.vt_pool.specs.inside.Steps.{executed_in, undone_in, cancelled_in, received_in}
 use Rattle.vt_pool.proofs.ViewLemmas.{number-place, place-own, numbers-differ, get-in, are-from, IsSameAt, changed-in, changed-letters, past-more, past-more-other, past-less, past-less-other, to-first, to-first-other, to-insert, to-insert-other, to-without, to-without-other}
 use Rattle.vt_pool.proofs.StampLemmas.{found-to, apart-to, without-rank, annihilate}
 

@@ -6,18 +6,19 @@ use Rattle.std.proofs.lemmas.List.{map-append}
 use Rattle.std.proofs.lemmas.List.Elements.{filter-append}
 use Rattle.std.proofs.lemmas.Bool.{eq-eqb, eqb-true, cases_Bool}
 use Rattle.std.proofs.lemmas.Bool.Decides.{eqb_tells}
-use Rattle.vt_key.specs.Queues.{insert_letter, without_first, has_rank, IsRising}
+use Rattle.vt_key.specs.promise.Queues.{insert_letter, without_first, has_rank}
+use Rattle.vt_key.specs.inside.Queues.{IsRising}
 use Rattle.vt_key.specs.declared.order.Rank.{Rank}
 use Rattle.vt_key.specs.declared.letter.Letter.{Letter}
 use Rattle.vt_model.specs.declared.settings.Config.{Config}
-use Rattle.vt_model.specs.Simulation.{Triple}
+use Rattle.vt_model.specs.promise.Simulation.{Triple}
 use Rattle.vt_key.proofs.RisingLemmas.{first-false, second-false}
 use Rattle.vt_pending.proofs.Filters.{filter-insert, filter-insert-other, filter-without, filter-without-other}
 use Rattle.vt_past.specs.declared.event.PastEvent.{PastEvent}
 use Rattle.vt_contest.proofs.Written.{put-there}
-use Rattle.vt_kernel.specs.Held.{AreProcesses}
+use Rattle.vt_kernel.specs.inside.Held.{AreProcesses}
 use Rattle.vt_kernel.proofs.LocalLemmas.{IsOwnPlace}
-use Rattle.vt_pool.specs.View.{Placed, Stock, is_at, past_at, without_last_at, is_to, letters_to, number_at, process_in, processes_from, processes_in}
+use Rattle.vt_pool.specs.inside.View.{Placed, Stock, is_at, past_at, without_last_at, is_to, letters_to, number_at, process_in, processes_from, processes_in}
 
 -- ---- numbers and indexes
 

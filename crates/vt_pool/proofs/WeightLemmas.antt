@@ -3,12 +3,12 @@ use Rattle.std.proofs.Common.{◌≡◌, ◌⊎◌, ℕ, ◌<◌, ap, arith, inl
 use Rattle.std.specs.List.{last_or}
 use Rattle.std.proofs.lemmas.List.{length-append}
 use Rattle.vt_key.specs.declared.order.Rank.{Rank}
-use Rattle.vt_model.specs.Handler.{Handlers}
-use Rattle.vt_model.specs.Simulation.{Triple}
+use Rattle.vt_model.specs.promise.Handler.{Handlers}
+use Rattle.vt_model.specs.promise.Simulation.{Triple}
 use Rattle.vt_past.specs.declared.event.PastEvent.{PastEvent}
-use Rattle.vt_pool.specs.View.{past_at}
-use Rattle.vt_pool.specs.Share.{HeldPool}
-use Rattle.vt_pool.specs.Pool.{HasCancelled, pool_after_undo, weight_of}
+use Rattle.vt_pool.specs.inside.View.{past_at}
+use Rattle.vt_pool.specs.inside.Share.{HeldPool}
+use Rattle.vt_pool.specs.inside.Pool.{HasCancelled, pool_after_undo, weight_of}
 use Rattle.vt_pool.proofs.KeptLemmas.{nodes-less}
 
 -- Undo lowers it

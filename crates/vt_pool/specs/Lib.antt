@@ -1,9 +1,1 @@
-pub mod View
-pub mod Steps
-pub mod Inside
-pub mod Forgotten
-pub mod Share
-pub mod Pool
-pub mod Opening
-pub mod Logged
-pub mod Executing
+pub mod inside

@@ -3,9 +3,9 @@
 ghost use Rattle.std.specs.Prelude.{◌≡◌, [], true, map, IfOk, IfErr};
 ghost use Rattle.vt_key.specs.declared.fault.Fault.TheVariants.{Memory};
 ghost use Rattle.vt_key.specs.declared.letter.Sign.TheVariants.{Plus};
-ghost use Rattle.vt_pool.specs.Inside.{AreSettled, ComesAfter};
-ghost use Rattle.vt_pool.specs.Share.{PoolLeadsTo};
-ghost use Rattle.vt_pool.specs.Pool.{MayCome, with_letter};
+ghost use Rattle.vt_pool.specs.inside.Inside.{AreSettled, ComesAfter};
+ghost use Rattle.vt_pool.specs.inside.Share.{PoolLeadsTo};
+ghost use Rattle.vt_pool.specs.inside.Pool.{MayCome, with_letter};
 
 use crate::pool::Pool;
 use vt_key::{Fault, Letter, Mail, Sign};

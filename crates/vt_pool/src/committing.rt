@@ -2,9 +2,9 @@
 
 ghost use Rattle.std.specs.Prelude.{◌≡◌, IfOk, IfErr};
 ghost use Rattle.vt_key.specs.declared.fault.Fault.TheVariants.{Memory};
-ghost use Rattle.vt_kernel.specs.Held.{held_values};
-ghost use Rattle.vt_pool.specs.View.{processes_in};
-ghost use Rattle.vt_pool.specs.Forgotten.{rows_of_placed, forgotten_in};
+ghost use Rattle.vt_kernel.specs.inside.Held.{held_values};
+ghost use Rattle.vt_pool.specs.inside.View.{processes_in};
+ghost use Rattle.vt_pool.specs.inside.Forgotten.{rows_of_placed, forgotten_in};
 
 use crate::pool::Pool;
 use std::alloc::Global;

@@ -2,11 +2,12 @@
 
 ghost use Rattle.std.specs.Prelude.{◌≡◌, ◌+◌, ◌≤◌, ◌⊎◌, ◌++◌, [], ◌∷◌, true, false, length, map};
 ghost use Rattle.std.specs.List.{AllByRecursion};
-ghost use Rattle.vt_key.specs.Queues.{letter_rank, holds_rank, insert_letter};
+ghost use Rattle.vt_key.specs.promise.Queues.{letter_rank, insert_letter};
+ghost use Rattle.vt_key.specs.inside.Queues.{holds_rank};
 ghost use Rattle.vt_key.specs.declared.letter.Letter.{Letter as LetterValue};
 ghost use Rattle.vt_key.specs.declared.letter.Sign.TheVariants.{Plus};
-ghost use Rattle.vt_steps.specs.Letters.{stamped, signed};
-ghost use Rattle.vt_pool.specs.Executing.{ComesHome, AreDelivered};
+ghost use Rattle.vt_steps.specs.promise.Letters.{stamped, signed};
+ghost use Rattle.vt_pool.specs.inside.Executing.{ComesHome, AreDelivered};
 
 use crate::kept::Kept;
 use crate::posting::letter_of;

@@ -1,22 +1,22 @@
 //! Execute of the least pending event of all.
 
 ghost use Rattle.std.specs.Prelude.{◌≡◌, ◌⊎◌, ◌+◌, ◌<◌, ◌≤◌, ◌*◌, ◌++◌, ℕ, [], ◌∷◌, true, false, length, IfOk, IfErr};
-ghost use Rattle.vt_key.specs.Times.{TimeBefore, TimeAtMost};
+ghost use Rattle.vt_key.specs.promise.Times.{TimeBefore, TimeAtMost};
 ghost use Rattle.vt_key.specs.declared.fault.Fault.TheVariants.{Memory, Exhausted};
 ghost use Rattle.vt_model.specs.declared.limits.TheConstants.{MAX_RECORDS};
-ghost use Rattle.vt_model.specs.Process.{triple_at, IsProcessStream};
-ghost use Rattle.vt_model.specs.Settings.{end_of};
-ghost use Rattle.vt_model.specs.Simulation.{simulation_of};
-ghost use Rattle.vt_steps.specs.Letters.{unstamped};
-ghost use Rattle.vt_steps.specs.StandsFor.{IsRemembered};
-ghost use Rattle.vt_steps.specs.World.{Part};
-ghost use Rattle.vt_lp.specs.Held.{remembered};
-ghost use Rattle.vt_lp.specs.Past.{IsAdvanceRefusal};
-ghost use Rattle.vt_logs.specs.Events.{all_nodes};
-ghost use Rattle.vt_kernel.specs.Held.{StandsFor};
-ghost use Rattle.vt_pool.specs.Inside.{AreSettled};
-ghost use Rattle.vt_pool.specs.Share.{HeldShare, PoolLeadsTo, with_pool, seen};
-ghost use Rattle.vt_pool.specs.Executing.{past_of, fired_by, IsFired, HasExecuted, IsNotExecuted};
+ghost use Rattle.vt_model.specs.inside.Process.{triple_at, IsProcessStream};
+ghost use Rattle.vt_model.specs.promise.Settings.{end_of};
+ghost use Rattle.vt_model.specs.promise.Simulation.{simulation_of};
+ghost use Rattle.vt_steps.specs.promise.Letters.{unstamped};
+ghost use Rattle.vt_steps.specs.inside.StandsFor.{IsRemembered};
+ghost use Rattle.vt_steps.specs.promise.World.{Part};
+ghost use Rattle.vt_lp.specs.inside.Held.{remembered};
+ghost use Rattle.vt_lp.specs.inside.Past.{IsAdvanceRefusal};
+ghost use Rattle.vt_logs.specs.inside.Events.{all_nodes};
+ghost use Rattle.vt_kernel.specs.inside.Held.{StandsFor};
+ghost use Rattle.vt_pool.specs.inside.Inside.{AreSettled};
+ghost use Rattle.vt_pool.specs.inside.Share.{HeldShare, PoolLeadsTo, with_pool, seen};
+ghost use Rattle.vt_pool.specs.inside.Executing.{past_of, fired_by, IsFired, HasExecuted, IsNotExecuted};
 
 use crate::delivering::deliver;
 use crate::kept::Kept;

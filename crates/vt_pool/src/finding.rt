@@ -8,7 +8,7 @@ use vt_list::Predicate;
 pub(crate) struct HasRank(pub(crate) Rank);
 
 impl<P> Predicate<Letter<P>> for HasRank {
-    ghost use Rattle.vt_key.specs.Queues.{has_rank};
+    ghost use Rattle.vt_key.specs.promise.Queues.{has_rank};
 
     ghost passes = { λ t letter. has_rank t.0 letter };
 
@@ -22,7 +22,7 @@ impl<P> Predicate<Letter<P>> for HasRank {
 pub(crate) struct HasStamp(pub(crate) Stamp);
 
 impl<P> Predicate<Letter<P>> for HasStamp {
-    ghost use Rattle.vt_key.specs.Queues.{has_stamp};
+    ghost use Rattle.vt_key.specs.promise.Queues.{has_stamp};
 
     ghost passes = { λ t letter. has_stamp t.0 letter };
 

@@ -1,10 +1,10 @@
 //! Whether a letter is held.
 
 ghost use Rattle.std.specs.Prelude.{◌≡◌, true, false};
-ghost use Rattle.vt_key.specs.Queues.{letter_rank};
+ghost use Rattle.vt_key.specs.promise.Queues.{letter_rank};
 ghost use Rattle.vt_key.specs.declared.letter.Sign.TheVariants.{Plus, Minus};
-ghost use Rattle.vt_pool.specs.Inside.{IsHeard};
-ghost use Rattle.vt_pool.specs.Pool.{holds_stamp};
+ghost use Rattle.vt_pool.specs.inside.Inside.{IsHeard};
+ghost use Rattle.vt_pool.specs.inside.Pool.{holds_stamp};
 
 use crate::finding::HasStamp;
 use crate::pool::Pool;

@@ -2,13 +2,13 @@
 
 ghost use Rattle.std.specs.Prelude.{◌≡◌, ◌<◌, true, find, IfSome};
 ghost use Rattle.std.specs.Option.{option_copied};
-ghost use Rattle.vt_key.specs.Queues.{without_first};
-ghost use Rattle.vt_model.specs.Settings.{end_of};
-ghost use Rattle.vt_steps.specs.PartSteps.{is_for};
-ghost use Rattle.vt_lp.specs.Held.{IsWithinRun};
-ghost use Rattle.vt_pool.specs.Inside.{AreSettled};
-ghost use Rattle.vt_pool.specs.Share.{PoolLeadsTo};
-ghost use Rattle.vt_pool.specs.Pool.{weight_of};
+ghost use Rattle.vt_key.specs.promise.Queues.{without_first};
+ghost use Rattle.vt_model.specs.promise.Settings.{end_of};
+ghost use Rattle.vt_steps.specs.promise.PartSteps.{is_for};
+ghost use Rattle.vt_lp.specs.inside.Held.{IsWithinRun};
+ghost use Rattle.vt_pool.specs.inside.Inside.{AreSettled};
+ghost use Rattle.vt_pool.specs.inside.Share.{PoolLeadsTo};
+ghost use Rattle.vt_pool.specs.inside.Pool.{weight_of};
 
 use crate::pool::Pool;
 use vt_key::Letter;

@@ -1,14 +1,14 @@
 //! What of a pool leaves its worker.
 
 ghost use Rattle.std.specs.Prelude.{◌≡◌, ℕ, ◌<◌, ◌≤◌, ◌⊎◌, ◌++◌, ◌%◌, ◌^◌, true, false, not, length, map, filter, IfOk, IfErr, IfSome, IfNone};
-ghost use Rattle.vt_key.specs.Times.{earlier};
+ghost use Rattle.vt_key.specs.promise.Times.{earlier};
 ghost use Rattle.vt_key.specs.declared.fault.Fault.TheVariants.{Memory, NotLawful, Exhausted};
-ghost use Rattle.vt_model.specs.Settings.{end_of};
-ghost use Rattle.vt_steps.specs.Letters.{least_time};
-ghost use Rattle.vt_steps.specs.PartSteps.{is_for};
-ghost use Rattle.vt_steps.specs.CellSteps.{may_send};
-ghost use Rattle.vt_kernel.specs.Held.{AllOwnMail};
-ghost use Rattle.vt_kernel.specs.Guards.{mailed};
+ghost use Rattle.vt_model.specs.promise.Settings.{end_of};
+ghost use Rattle.vt_steps.specs.promise.Letters.{least_time};
+ghost use Rattle.vt_steps.specs.promise.PartSteps.{is_for};
+ghost use Rattle.vt_steps.specs.promise.CellSteps.{may_send};
+ghost use Rattle.vt_kernel.specs.inside.Held.{AllOwnMail};
+ghost use Rattle.vt_kernel.specs.inside.Guards.{mailed};
 
 use crate::pool::Pool;
 use vt_kernel::{mail_letters, make_room};

@@ -4,12 +4,12 @@ ghost use Rattle.std.specs.Prelude.{◌≡◌, ◌<◌, ◌≤◌, ◌++◌, [],
 ghost use Rattle.vt_key.specs.declared.fault.Fault.TheVariants.{Memory};
 ghost use Rattle.vt_key.specs.declared.letter.Sign.TheVariants.{Plus};
 ghost use Rattle.vt_key.specs.declared.limits.TheConstants.{MAX_COUNT};
-ghost use Rattle.vt_model.specs.Simulation.{simulation_of};
-ghost use Rattle.vt_steps.specs.Letters.{signed};
-ghost use Rattle.vt_steps.specs.World.{process_count, start_sends, start_events};
-ghost use Rattle.vt_lp.specs.Held.{AllWithinRun};
-ghost use Rattle.vt_pool.specs.Inside.{AreSettled};
-ghost use Rattle.vt_pool.specs.Opening.{AreStarted, IsLedFromOpening, StandsForOpening};
+ghost use Rattle.vt_model.specs.promise.Simulation.{simulation_of};
+ghost use Rattle.vt_steps.specs.promise.Letters.{signed};
+ghost use Rattle.vt_steps.specs.promise.World.{process_count, start_sends, start_events};
+ghost use Rattle.vt_lp.specs.inside.Held.{AllWithinRun};
+ghost use Rattle.vt_pool.specs.inside.Inside.{AreSettled};
+ghost use Rattle.vt_pool.specs.inside.Opening.{AreStarted, IsLedFromOpening, StandsForOpening};
 
 use crate::counts::Counts;
 use crate::kept::Kept;

@@ -1,7 +1,7 @@
 //! The processes of a worker, with what is pending at them and what they executed.
 
 ghost use Rattle.std.specs.Prelude.{◌≡◌, ◌<◌, ◌/◌};
-ghost use Rattle.vt_pool.specs.Inside.{IsStockInside};
+ghost use Rattle.vt_pool.specs.inside.Inside.{IsStockInside};
 
 use crate::counts::Counts;
 use crate::kept::Kept;
@@ -38,10 +38,10 @@ pub struct Pool<M: EventModel> {
 
 impl<M: EventModel> Model for Pool<M> {
     ghost use Rattle.std.specs.Prelude.{map, length, ◌≡◌};
-    ghost use Rattle.vt_model.specs.Process.{triple_at};
-    ghost use Rattle.vt_pool.specs.Share.{HeldPool};
-    ghost use Rattle.vt_pool.specs.Inside.{IsPoolInside};
-    ghost use Rattle.vt_pool.specs.Logged.{placed, AreMade};
+    ghost use Rattle.vt_model.specs.inside.Process.{triple_at};
+    ghost use Rattle.vt_pool.specs.inside.Share.{HeldPool};
+    ghost use Rattle.vt_pool.specs.inside.Inside.{IsPoolInside};
+    ghost use Rattle.vt_pool.specs.inside.Logged.{placed, AreMade};
 
     ghost Value = { HeldPool M.State M.Payload M.Kept };
 

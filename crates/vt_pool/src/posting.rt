@@ -1,7 +1,7 @@
 //! Letters for what an event sends, on their way into the outbox.
 
 ghost use Rattle.std.specs.Prelude.{◌≡◌, ◌+◌, ◌≤◌, ◌++◌, length, map};
-ghost use Rattle.vt_steps.specs.Letters.{stamped, signed};
+ghost use Rattle.vt_steps.specs.promise.Letters.{stamped, signed};
 
 use crate::kept::Kept;
 use vt_key::{Event, Letter, MAX_COUNT, Rank, Sign, Stamp};

@@ -2,13 +2,13 @@
 
 ghost use Rattle.std.specs.Prelude.{◌≡◌, ◌≤◌, ◌⊎◌, find, MatchOption};
 ghost use Rattle.std.specs.List.{AllByRecursion};
-ghost use Rattle.vt_key.specs.Queues.{letter_rank, has_rank, insert_letter, without_first};
+ghost use Rattle.vt_key.specs.promise.Queues.{letter_rank, has_rank, insert_letter, without_first};
 ghost use Rattle.vt_key.specs.declared.letter.Letter.{Letter as LetterValue};
 ghost use Rattle.vt_key.specs.declared.letter.Sign.TheVariants.{Plus, Minus};
-ghost use Rattle.vt_pool.specs.View.{Placed};
-ghost use Rattle.vt_pool.specs.Inside.{IsWorkersLetter, IsHeard, AreSettled, placed_rank};
-ghost use Rattle.vt_pool.specs.Share.{PoolLeadsTo};
-ghost use Rattle.vt_pool.specs.Pool.{HasCancelled, MayCome, weight_of, with_letter, with_pending, with_waiting};
+ghost use Rattle.vt_pool.specs.inside.View.{Placed};
+ghost use Rattle.vt_pool.specs.inside.Inside.{IsWorkersLetter, IsHeard, AreSettled, placed_rank};
+ghost use Rattle.vt_pool.specs.inside.Share.{PoolLeadsTo};
+ghost use Rattle.vt_pool.specs.inside.Pool.{HasCancelled, MayCome, weight_of, with_letter, with_pending, with_waiting};
 
 use crate::finding::HasRank;
 use crate::pool::Pool;

@@ -2,9 +2,9 @@
 
 ghost use Rattle.std.specs.Prelude.{◌≡◌, ◌++◌, slice_get};
 ghost use Rattle.std.specs.Option.{option_map, option_map_or};
-ghost use Rattle.vt_key.specs.Times.{earlier};
-ghost use Rattle.vt_model.specs.Settings.{end_of};
-ghost use Rattle.vt_steps.specs.Letters.{letter_time, least_time};
+ghost use Rattle.vt_key.specs.promise.Times.{earlier};
+ghost use Rattle.vt_model.specs.promise.Settings.{end_of};
+ghost use Rattle.vt_steps.specs.promise.Letters.{letter_time, least_time};
 
 use crate::pool::Pool;
 use vt_key::{Letter, When};

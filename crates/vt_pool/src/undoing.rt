@@ -3,17 +3,18 @@
 ghost use Rattle.std.specs.Prelude.{◌≡◌, ◌+◌, ◌-◌, ◌%◌, ◌^◌, ◌<◌, ◌≤◌, ◌⊎◌, List as Items, Some, None, not, false, slice_get, length};
 ghost use Rattle.std.specs.List.{last_or};
 ghost use Rattle.std.specs.Option.{option_map_or};
-ghost use Rattle.vt_key.specs.Lists.{Among};
-ghost use Rattle.vt_key.specs.Order.{rank_before, RankBefore};
-ghost use Rattle.vt_key.specs.Queues.{letter_rank};
+ghost use Rattle.vt_key.specs.promise.Lists.{Among};
+ghost use Rattle.vt_key.specs.promise.Order.{rank_before};
+ghost use Rattle.vt_key.specs.inside.Order.{RankBefore};
+ghost use Rattle.vt_key.specs.promise.Queues.{letter_rank};
 ghost use Rattle.vt_key.specs.declared.letter.Letter.{Letter as LetterValue};
 ghost use Rattle.vt_key.specs.declared.order.Rank.{Rank as RankValue};
-ghost use Rattle.vt_model.specs.Simulation.{Triple};
+ghost use Rattle.vt_model.specs.promise.Simulation.{Triple};
 ghost use Rattle.vt_model.specs.declared.limits.TheConstants.{MAX_DRAWS};
 ghost use Rattle.vt_past.specs.declared.event.PastEvent.{PastEvent as PastEventValue};
-ghost use Rattle.vt_pool.specs.View.{number_at, past_at};
-ghost use Rattle.vt_pool.specs.Share.{AreSettledBut, PoolLeadsTo};
-ghost use Rattle.vt_pool.specs.Pool.{pool_after_undo, weight_of, with_waiting};
+ghost use Rattle.vt_pool.specs.inside.View.{number_at, past_at};
+ghost use Rattle.vt_pool.specs.inside.Share.{AreSettledBut, PoolLeadsTo};
+ghost use Rattle.vt_pool.specs.inside.Pool.{pool_after_undo, weight_of, with_waiting};
 
 use crate::pool::Pool;
 use crate::posting::post;

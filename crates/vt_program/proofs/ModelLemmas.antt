@@ -3,9 +3,9 @@ use Rattle.std.proofs.Common.{◌≡◌, ◌≢◌, ℕ, List, Option, Some, Non
 use Rattle.std.specs.Prelude.{if◌then◌else◌}
 use Rattle.std.specs.Str.{bytes_eq}
 use Rattle.clap.specs.Words.{Text}
-use Rattle.vt_options.specs.Own.{AreInRange, GiveModel, named_in}
-use Rattle.vt_options.specs.Table.{Given}
-use Rattle.vt_command.specs.Table.{twarp_models, stations_table}
+use Rattle.vt_options.specs.promise.Own.{AreInRange, GiveModel, named_in}
+use Rattle.vt_options.specs.promise.Table.{Given}
+use Rattle.vt_command.specs.promise.Table.{twarp_models, stations_table}
 
 abbrev names : List Text
 names = codes "hop" ∷ codes "phold" ∷ codes "stations" ∷ []

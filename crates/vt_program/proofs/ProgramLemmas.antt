@@ -2,8 +2,8 @@
 use Rattle.std.proofs.Common.{◌≡◌, ◌⊎◌, ◌∙◌, ℕ, List, Option, Some, ap, inl, inr, map, refl, subst, sym}
 use Rattle.clap.specs.Words.{Text}
 use Rattle.vt_options.specs.declared.programs.Assignment.{Assignment}
-use Rattle.vt_options.specs.Programs.{pair_of}
-use Rattle.vt_options.specs.Processes.{IsUnsettled}
+use Rattle.vt_options.specs.promise.Programs.{pair_of}
+use Rattle.vt_options.specs.promise.Processes.{IsUnsettled}
 use Rattle.vt_options.specs.declared.processes.Unsettled.{Unsettled}
 use Rattle.vt_options.specs.declared.processes.Unsettled.TheVariants.{Count, Lps}
 use Rattle.vt_guest.specs.declared.loading.Set.{Set}
@@ -11,9 +11,10 @@ use Rattle.vt_guest.specs.declared.loading.Loaded.{Loaded}
 use Rattle.vt_options.specs.declared.programs.ProgramChoice.{ProgramChoice}
 use Rattle.vt_program.specs.declared.programs.ProgramRefusal.{ProgramRefusal}
 use Rattle.vt_program.specs.declared.programs.ProgramRefusal.TheVariants as refusal
-use Rattle.vt_program.specs.Models.{Refuses}
+use Rattle.vt_program.specs.promise.Models.{Refuses}
 use Rattle.vt_program.specs.declared.programs.TheConstants.{MAX_PROGRAM_FILE}
-use Rattle.vt_program.specs.Programs.{Told, Loads, MayGive, MayHave, MayHaveData, RefusesProgram, data_name, option_of, set_pair, unsettled_refusal}
+use Rattle.vt_program.specs.promise.Programs.{Told, Loads, MayGive, MayHave, MayHaveData, RefusesProgram, data_name, option_of, set_pair}
+use Rattle.vt_program.specs.inside.Programs.{unsettled_refusal}
 
 -- what loading takes is what the files may have, and what is set
 pub may_give : (told : Told) (p : ProgramChoice) {file bytes input : List ℕ} {made sets : List Set} {numbers : List Assignment}

@@ -1,6 +1,2 @@
-pub mod Refusals
-pub mod Programs
-pub mod Guests
-pub mod Models
-pub mod Outcomes
-pub mod Hints
+pub mod promise
+pub mod inside

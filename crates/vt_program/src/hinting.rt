@@ -2,11 +2,11 @@
 
 ghost use Rattle.std.specs.Prelude.{◌≡◌, ◌⊎◌, Some, IfSome, codes, map, string_bytes};
 ghost use Rattle.clap.specs.Words.{Text};
-ghost use Rattle.vt_options.specs.Hints.{IsHintOn};
-ghost use Rattle.vt_command.specs.Requests.{twarp_line};
-ghost use Rattle.vt_program.specs.Hints.{TellsProgram, program_line};
-ghost use Rattle.vt_program.specs.Models.{Refuses};
-ghost use Rattle.vt_program.specs.Programs.{option_of};
+ghost use Rattle.vt_options.specs.inside.Hints.{IsHintOn};
+ghost use Rattle.vt_command.specs.promise.Requests.{twarp_line};
+ghost use Rattle.vt_program.specs.inside.Hints.{TellsProgram, program_line};
+ghost use Rattle.vt_program.specs.promise.Models.{Refuses};
+ghost use Rattle.vt_program.specs.promise.Programs.{option_of};
 
 use crate::files::Files;
 use crate::programs::{ProgramRefusal, fault_of, program_model};

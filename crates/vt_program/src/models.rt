@@ -2,12 +2,13 @@
 
 ghost use Rattle.std.specs.Prelude.{◌≡◌, ◌⊎◌, OnOk, IfOk, IfErr, Ok, Err, Some};
 ghost use Rattle.clap.specs.Words.{Text};
-ghost use Rattle.vt_options.specs.Own.{AreInRange};
-ghost use Rattle.vt_tasks.specs.Models.{CarriesOut};
-ghost use Rattle.vt_tasks.specs.Tasks.{BeginsWithinLimit, IsTaskDone, TaskEnds, KeepsInput};
-ghost use Rattle.vt_command.specs.Table.{hop_table, phold_table, stations_table};
-ghost use Rattle.vt_program.specs.Programs.{option_of};
-ghost use Rattle.vt_program.specs.Models.{IsChoice, IsMadeOf, Makes, hop_values, phold_values, stations_values, meaning_of};
+ghost use Rattle.vt_options.specs.promise.Own.{AreInRange};
+ghost use Rattle.vt_tasks.specs.inside.Models.{CarriesOut};
+ghost use Rattle.vt_tasks.specs.inside.Tasks.{BeginsWithinLimit, IsTaskDone, TaskEnds, KeepsInput};
+ghost use Rattle.vt_command.specs.promise.Table.{hop_table, phold_table, stations_table};
+ghost use Rattle.vt_program.specs.promise.Programs.{option_of};
+ghost use Rattle.vt_program.specs.promise.Models.{IsMadeOf, Makes, hop_values, phold_values, stations_values, meaning_of};
+ghost use Rattle.vt_program.specs.inside.Models.{IsChoice};
 
 use crate::files::Files;
 use crate::programs::{ProgramRefusal, fault_of, program_model};

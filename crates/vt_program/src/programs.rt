@@ -1,12 +1,13 @@
 //! Programs in the place of a model: how one is made of files and of what the words give it.
 
 ghost use Rattle.std.specs.Prelude.{◌≡◌, ◌⊎◌, ℕ, Option, IfOk, IfErr, map};
-ghost use Rattle.vt_key.specs.Faults.{option_named};
+ghost use Rattle.vt_key.specs.promise.Faults.{option_named};
 ghost use Rattle.vt_options.specs.declared.processes.Unsettled.{Unsettled};
-ghost use Rattle.vt_options.specs.Processes.{IsUnsettled, Settles};
-ghost use Rattle.vt_options.specs.Programs.{pair_of};
-ghost use Rattle.vt_program.specs.Programs.{Loads, MayFail, MayHave, MayHaveData, RefusesProgram, data_name, option_of, set_pair, unsettled_refusal};
-ghost use Rattle.vt_program.specs.Guests.{IsGuestOf, RunsProgram};
+ghost use Rattle.vt_options.specs.promise.Processes.{IsUnsettled, Settles};
+ghost use Rattle.vt_options.specs.promise.Programs.{pair_of};
+ghost use Rattle.vt_program.specs.promise.Programs.{Loads, MayFail, MayHave, MayHaveData, RefusesProgram, data_name, option_of, set_pair};
+ghost use Rattle.vt_program.specs.inside.Programs.{unsettled_refusal};
+ghost use Rattle.vt_program.specs.promise.Guests.{IsGuestOf, RunsProgram};
 
 use crate::files::{Files, ReadFault};
 use crate::models::TwarpModel;

@@ -1,7 +1,7 @@
 //! The line of a refusal, and the exit status.
 
 ghost use Rattle.std.specs.Prelude.{◌≡◌};
-ghost use Rattle.vt_program.specs.Refusals.{TellsRefusal, status_of};
+ghost use Rattle.vt_program.specs.promise.Refusals.{TellsRefusal, status_of};
 
 use std::io::Write;
 use vt_key::Fault;

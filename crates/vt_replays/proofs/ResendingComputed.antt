@@ -1,15 +1,15 @@
 -- The replay of the small simulation, by computation.
 use Rattle.std.proofs.Common.{refl}
-use Rattle.vt_steps.specs.World.{opening_world}
-use Rattle.vt_steps.specs.ProcessSteps.{effect_of_execute, effect_of_undo, cancel_process, accept_process}
-use Rattle.vt_steps.specs.PartSteps.{part_after_send, mail_of_send, part_after_fetch, part_after_cut, part_after_commit, rows_of_commit}
-use Rattle.vt_steps.specs.BoardSteps.{with_open_round, with_report, after_report}
-use Rattle.vt_steps.specs.BookSteps.{with_rows}
-use Rattle.vt_steps.specs.CellSteps.{send, fetch, cut, report, commit, close}
-use Rattle.vt_steps.specs.Next.{next, run, answers}
-use Rattle.vt_key.specs.Order.{key_before, key_same, stamp_before, stamp_same, rank_before, rank_same}
-use Rattle.vt_replays.specs.Replays.{Replays}
-use Rattle.vt_replays.specs.Resending.{resending, waiting_least, waiting_least_shown}
+use Rattle.vt_steps.specs.promise.World.{opening_world}
+use Rattle.vt_steps.specs.promise.ProcessSteps.{effect_of_execute, effect_of_undo, cancel_process, accept_process}
+use Rattle.vt_steps.specs.promise.PartSteps.{part_after_send, mail_of_send, part_after_fetch, part_after_cut, part_after_commit, rows_of_commit}
+use Rattle.vt_steps.specs.promise.BoardSteps.{with_open_round, with_report, after_report}
+use Rattle.vt_steps.specs.promise.BookSteps.{with_rows}
+use Rattle.vt_steps.specs.promise.CellSteps.{send, fetch, cut, report, commit, close}
+use Rattle.vt_steps.specs.promise.Next.{next, run, answers}
+use Rattle.vt_key.specs.promise.Order.{key_before, key_same, stamp_before, stamp_same, rank_before, rank_same}
+use Rattle.vt_replays.specs.inside.Replays.{Replays}
+use Rattle.vt_replays.specs.inside.Resending.{resending, waiting_least, waiting_least_shown}
 
 -- it is answered as listed
 pub waiting : Replays resending waiting_least waiting_least_shown

@@ -1,22 +1,22 @@
 -- The worked sequential runs: a few steps end each of them, so what was executed by then is the whole run.
 use Rattle.std.proofs.Common.{◌≡◌, ℕ, List, [], refl, subst}
-use Rattle.vt_key.specs.Times.{Time}
-use Rattle.vt_key.specs.Order.{key_before, key_same}
+use Rattle.vt_key.specs.promise.Times.{Time}
+use Rattle.vt_key.specs.promise.Order.{key_before, key_same}
 use Rattle.vt_model.specs.declared.rows.Record.{Record}
 use Rattle.vt_model.specs.declared.settings.Config.{Config}
 use Rattle.vt_model.specs.declared.sending.Sent.{Sent}
-use Rattle.vt_model.specs.Sends.{sent_events, requested_records}
-use Rattle.vt_model.specs.Histories.{IsLawful}
-use Rattle.vt_model.specs.Simulation.{simulation_of, after, start_of, fire_of, rows_of}
-use Rattle.vt_model.specs.Sequential.{after_steps, whole_run, fired_after, rows_after, rows_before, records_of, events_before, events_of}
+use Rattle.vt_model.specs.promise.Sends.{sent_events, requested_records}
+use Rattle.vt_model.specs.promise.Histories.{IsLawful}
+use Rattle.vt_model.specs.promise.Simulation.{simulation_of, after, start_of, fire_of, rows_of}
+use Rattle.vt_model.specs.promise.Sequential.{after_steps, whole_run, fired_after, rows_after, rows_before, records_of, events_before, events_of}
 use Rattle.vt_model.proofs.LawLemmas.{lawful_of}
 use Rattle.vt_model.proofs.EndLemmas.{executed_all}
 use Rattle.vt_models.specs.declared.hop.Hop.{Hop}
 use Rattle.vt_models.specs.declared.hop.Token.{Token}
-use Rattle.vt_models.specs.Hop.{hop_handlers}
-use Rattle.vt_models.specs.HopLaws.{start_within, forward_within}
-use Rattle.vt_model.specs.Settings.{end_of}
-use Rattle.vt_replays.specs.Replays.{tick, HasRecords, ProcessEndsWith, two_hops, one_hop, two_further, one_worker, one_worker_to_4, two_workers, three_processes, two_hops_run, two_hops_run_to_4, three_processes_run, replayed, six_records, three_records, four_records, three_processes_records, below_3, two_rises, two_rises_run, risen_records, three_rises, one_process, one_process_to_2, three_rises_run, three_rises_run_to_2, records_to_2, records_to_10}
+use Rattle.vt_models.specs.promise.Hop.{hop_handlers}
+use Rattle.vt_models.specs.inside.HopLaws.{start_within, forward_within}
+use Rattle.vt_model.specs.promise.Settings.{end_of}
+use Rattle.vt_replays.specs.inside.Replays.{tick, HasRecords, ProcessEndsWith, two_hops, one_hop, two_further, one_worker, one_worker_to_4, two_workers, three_processes, two_hops_run, two_hops_run_to_4, three_processes_run, replayed, six_records, three_records, four_records, three_processes_records, below_3, two_rises, two_rises_run, risen_records, three_rises, one_process, one_process_to_2, three_rises_run, three_rises_run_to_2, records_to_2, records_to_10}
 
 hop_lawful : (hop : Hop) (config : Config) → IsLawful (simulation_of (hop_handlers hop) config)
 hop_lawful hop config = lawful_of (hop_handlers hop) config (start_within hop) (forward_within hop)

@@ -1,11 +1,11 @@
 //! The theorems on all lists of steps, for the hop model.
 
 ghost use Rattle.std.specs.Prelude.{ℕ, List};
-ghost use Rattle.vt_model.specs.Simulation.{simulation_of};
-ghost use Rattle.vt_models.specs.Hop.{hop_handlers};
+ghost use Rattle.vt_model.specs.promise.Simulation.{simulation_of};
+ghost use Rattle.vt_models.specs.promise.Hop.{hop_handlers};
 ghost use Rattle.vt_steps.specs.declared.step.Step.{Step};
-ghost use Rattle.vt_steps.specs.Claims.{Histories};
-ghost use Rattle.vt_steps.specs.Next.{reached};
+ghost use Rattle.vt_steps.specs.inside.Claims.{Histories};
+ghost use Rattle.vt_steps.specs.promise.Next.{reached};
 
 use vt_model::{Config, models_are_lawful};
 use vt_models::Hop;

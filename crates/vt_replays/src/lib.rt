@@ -8,8 +8,8 @@
 mod hop_runs;
 mod resending;
 
-ghost use Rattle.vt_replays.specs.Replays.{Replays, replayed, two_hops_run, straggler, whole_run_shown, anti_message_first, new_event_first, unequal_counts, unequal_counts_shown, travelling_least, travelling_least_shown, fetched_least, fetched_least_shown, anti_message_last, row_at_floor, row_at_floor_shown, second_round_closes, one_round, one_round_shown, alone, until_one, no_events, no_events_shown, undo_without_cause, undo_without_cause_shown, undo_without_cause_of_its_own, undo_without_cause_of_its_own_shown, one_commits, one_commits_shown, after_the_close, one_rise_on_two, straggler_within_a_tick, straggler_within_a_tick_shown};
-ghost use Rattle.vt_replays.specs.Replays.{tick, HasRecords, ProcessEndsWith, two_hops_run_to_4, three_processes_run, six_records, three_records, four_records, three_processes_records, below_3, two_rises_run, risen_records, three_rises_run, three_rises_run_to_2, records_to_2, records_to_10};
+ghost use Rattle.vt_replays.specs.inside.Replays.{Replays, replayed, two_hops_run, straggler, whole_run_shown, anti_message_first, new_event_first, unequal_counts, unequal_counts_shown, travelling_least, travelling_least_shown, fetched_least, fetched_least_shown, anti_message_last, row_at_floor, row_at_floor_shown, second_round_closes, one_round, one_round_shown, alone, until_one, no_events, no_events_shown, undo_without_cause, undo_without_cause_shown, undo_without_cause_of_its_own, undo_without_cause_of_its_own_shown, one_commits, one_commits_shown, after_the_close, one_rise_on_two, straggler_within_a_tick, straggler_within_a_tick_shown};
+ghost use Rattle.vt_replays.specs.inside.Replays.{tick, HasRecords, ProcessEndsWith, two_hops_run_to_4, three_processes_run, six_records, three_records, four_records, three_processes_records, below_3, two_rises_run, risen_records, three_rises_run, three_rises_run_to_2, records_to_2, records_to_10};
 
 pub use hop_runs::hop_histories;
 pub use resending::waiting_anti_message_is_the_least;

@@ -5,7 +5,7 @@ use Rattle.std.proofs.Math.Seq.{get_or-append_seam}
 use Rattle.std.proofs.lemmas.Bool.{cases_lt}
 use Rattle.vt_riscv.specs.declared.instruction.Instruction.{Instruction}
 use Rattle.vt_riscv.specs.declared.ready.Head.{Head}
-use Rattle.vt_riscv.specs.Readiness.{place_at, step_of, ended, head_at, instruction_of, IsSmall, IsMade, IsReady, IsAimed}
+use Rattle.vt_riscv.specs.inside.Readiness.{place_at, step_of, ended, head_at, instruction_of, IsSmall, IsMade, IsReady, IsAimed}
 
 module _ (compressed : Bool) (list : List Instruction) where
   -- only the head and the place of the one behind it tell

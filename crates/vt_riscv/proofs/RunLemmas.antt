@@ -5,7 +5,7 @@ use Rattle.vt_riscv.specs.declared.code.Code.{Code}
 use Rattle.vt_riscv.specs.declared.machine.Machine.{Machine}
 use Rattle.vt_riscv.specs.declared.machine.Stop.{Stop}
 use Rattle.vt_riscv.specs.declared.machine.Stop.TheVariants.{Ended, Spent}
-use Rattle.vt_riscv.specs.Steps.{step_of, followed, run_of}
+use Rattle.vt_riscv.specs.promise.Steps.{step_of, followed, run_of}
 
 module _ {N : ℕ} (code : Code) where
   -- a run goes on as its first step says

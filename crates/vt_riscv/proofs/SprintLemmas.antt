@@ -11,9 +11,9 @@ use Rattle.vt_riscv.specs.declared.machine.Stop.{Stop}
 use Rattle.vt_riscv.specs.declared.machine.Stop.TheVariants.{Called, Trapped}
 use Rattle.vt_riscv.specs.declared.sprint.Go.{Go}
 use Rattle.vt_riscv.specs.declared.sprint.Go.TheVariants as go
-use Rattle.vt_riscv.specs.Readiness.{place_at, head_at, instruction_at, IsFollowed, IsReady, AreReady}
-use Rattle.vt_riscv.specs.Steps.{Turn, goes_on, stops, behind, is_misaligned, fetch_of, exec_of, obeyed, step_of, run_of}
-use Rattle.vt_riscv.specs.Sprints.{at_index, seen, due, IsAim}
+use Rattle.vt_riscv.specs.inside.Readiness.{place_at, head_at, instruction_at, IsFollowed, IsReady, AreReady}
+use Rattle.vt_riscv.specs.promise.Steps.{Turn, goes_on, stops, behind, is_misaligned, fetch_of, exec_of, obeyed, step_of, run_of}
+use Rattle.vt_riscv.specs.inside.Sprints.{at_index, seen, due, IsAim}
 use Rattle.vt_riscv.proofs.RunLemmas.{run-on, run-stop}
 
 -- where an instruction may begin

@@ -1,9 +1,2 @@
-pub mod Arithmetic
-pub mod Memory
-pub mod Decoding
-pub mod Compressed
-pub mod Codes
-pub mod Readiness
-pub mod Effects
-pub mod Steps
-pub mod Sprints
+pub mod promise
+pub mod inside

@@ -2,7 +2,7 @@
 
 ghost use Rattle.std.specs.Prelude.{◌≡◌, IsTrue, ◌↔◌};
 ghost use Rattle.std.specs.Int.{w32, w64};
-ghost use Rattle.vt_riscv.specs.Arithmetic.{low, sign_extended, sum_of_words, difference_of_words, right_signed, left_of_word, right_of_word, right_signed_of_word, less_signed, product_of_words, doubled, upper_signed, upper_mixed, upper_unsigned, quotient, rest, quotient_signed, rest_signed, quotient_of_words, rest_of_words, signed_quotient_of_words, signed_rest_of_words};
+ghost use Rattle.vt_riscv.specs.promise.Arithmetic.{low, sign_extended, sum_of_words, difference_of_words, right_signed, left_of_word, right_of_word, right_signed_of_word, less_signed, product_of_words, doubled, upper_signed, upper_mixed, upper_unsigned, quotient, rest, quotient_signed, rest_signed, quotient_of_words, rest_of_words, signed_quotient_of_words, signed_rest_of_words};
 
 // The low 32 bits.
 #[inline]

@@ -1,8 +1,8 @@
 //! What a program is to the machine.
 
 ghost use Rattle.std.specs.Prelude.{◌≡◌, ◌+◌, ◌≤◌, length, IfOk, take};
-ghost use Rattle.vt_riscv.specs.Codes.{long_at, short_of, instruction_with, instruction_at, instructions_of};
-ghost use Rattle.vt_riscv.specs.Readiness.{AreReady};
+ghost use Rattle.vt_riscv.specs.promise.Codes.{long_at, short_of, instruction_with, instruction_at, instructions_of};
+ghost use Rattle.vt_riscv.specs.inside.Readiness.{AreReady};
 
 use crate::decoding::plain;
 use crate::memory::{half, word};

@@ -1,7 +1,7 @@
 //! Compressed instructions from halves.
 
 ghost use Rattle.std.specs.Prelude.{◌≡◌};
-ghost use Rattle.vt_riscv.specs.Compressed.{rd_in, rs2_in, high_in, low_in, lwsp_offset, ldsp_offset, swsp_offset, sdsp_offset, word_offset, double_offset, jump_offset, branch_offset, amount_in, immediate_in, upper_in, addi16sp_immediate, addi4spn_immediate, short, no_instruction, unless_reserved, quadrant_0, upper_of, registers_of, arithmetic_of, quadrant_1, move_of, quadrant_2, by_quadrant, decode_compressed_of};
+ghost use Rattle.vt_riscv.specs.promise.Compressed.{rd_in, rs2_in, high_in, low_in, lwsp_offset, ldsp_offset, swsp_offset, sdsp_offset, word_offset, double_offset, jump_offset, branch_offset, amount_in, immediate_in, upper_in, addi16sp_immediate, addi4spn_immediate, short, no_instruction, unless_reserved, quadrant_0, upper_of, registers_of, arithmetic_of, quadrant_1, move_of, quadrant_2, by_quadrant, decode_compressed_of};
 
 use crate::decoding::by_sign;
 use crate::{Instruction, Operation};
@@ -33,42 +33,42 @@ fn low(h: u32) -> u8
 }
 
 // Offsets of loads and stores.
-#[tactic(auto, unfolding(crate::specs::Compressed::lwsp_offset))]
+#[tactic(auto, unfolding(crate::specs::promise::Compressed::lwsp_offset))]
 fn lwsp_offset(h: u32) -> u64
     ensures { result ≡ lwsp_offset h }
 {
     u64::from(h / 0x1000 % 0x2 * 0x20 + h / 0x10 % 0x8 * 0x4 + h / 0x4 % 0x4 * 0x40)
 }
 
-#[tactic(auto, unfolding(crate::specs::Compressed::ldsp_offset))]
+#[tactic(auto, unfolding(crate::specs::promise::Compressed::ldsp_offset))]
 fn ldsp_offset(h: u32) -> u64
     ensures { result ≡ ldsp_offset h }
 {
     u64::from(h / 0x1000 % 0x2 * 0x20 + h / 0x20 % 0x4 * 0x8 + h / 0x4 % 0x8 * 0x40)
 }
 
-#[tactic(auto, unfolding(crate::specs::Compressed::swsp_offset))]
+#[tactic(auto, unfolding(crate::specs::promise::Compressed::swsp_offset))]
 fn swsp_offset(h: u32) -> u64
     ensures { result ≡ swsp_offset h }
 {
     u64::from(h / 0x200 % 0x10 * 0x4 + h / 0x80 % 0x4 * 0x40)
 }
 
-#[tactic(auto, unfolding(crate::specs::Compressed::sdsp_offset))]
+#[tactic(auto, unfolding(crate::specs::promise::Compressed::sdsp_offset))]
 fn sdsp_offset(h: u32) -> u64
     ensures { result ≡ sdsp_offset h }
 {
     u64::from(h / 0x400 % 0x8 * 0x8 + h / 0x80 % 0x8 * 0x40)
 }
 
-#[tactic(auto, unfolding(crate::specs::Compressed::word_offset))]
+#[tactic(auto, unfolding(crate::specs::promise::Compressed::word_offset))]
 fn word_offset(h: u32) -> u64
     ensures { result ≡ word_offset h }
 {
     u64::from(h / 0x400 % 0x8 * 0x8 + h / 0x40 % 0x2 * 0x4 + h / 0x20 % 0x2 * 0x40)
 }
 
-#[tactic(auto, unfolding(crate::specs::Compressed::double_offset))]
+#[tactic(auto, unfolding(crate::specs::promise::Compressed::double_offset))]
 fn double_offset(h: u32) -> u64
     ensures { result ≡ double_offset h }
 {
@@ -76,7 +76,7 @@ fn double_offset(h: u32) -> u64
 }
 
 // How far jumps and branches lead.
-#[tactic(auto, unfolding(crate::specs::Compressed::jump_offset))]
+#[tactic(auto, unfolding(crate::specs::promise::Compressed::jump_offset))]
 fn jump_offset(h: u32) -> u64
     ensures { result ≡ jump_offset h }
 {
@@ -91,7 +91,7 @@ fn jump_offset(h: u32) -> u64
     by_sign(x, 0x800)
 }
 
-#[tactic(auto, unfolding(crate::specs::Compressed::branch_offset))]
+#[tactic(auto, unfolding(crate::specs::promise::Compressed::branch_offset))]
 fn branch_offset(h: u32) -> u64
     ensures { result ≡ branch_offset h }
 {
@@ -123,7 +123,7 @@ fn upper_immediate(h: u32) -> u64
     by_sign(amount(h) * 0x1000, 0x2_0000)
 }
 
-#[tactic(auto, unfolding(crate::specs::Compressed::addi16sp_immediate))]
+#[tactic(auto, unfolding(crate::specs::promise::Compressed::addi16sp_immediate))]
 fn addi16sp_immediate(h: u32) -> u64
     ensures { result ≡ addi16sp_immediate h }
 {
@@ -135,7 +135,7 @@ fn addi16sp_immediate(h: u32) -> u64
     by_sign(x, 0x200)
 }
 
-#[tactic(auto, unfolding(crate::specs::Compressed::addi4spn_immediate))]
+#[tactic(auto, unfolding(crate::specs::promise::Compressed::addi4spn_immediate))]
 fn addi4spn_immediate(h: u32) -> u64
     ensures { result ≡ addi4spn_immediate h }
 {
@@ -184,7 +184,7 @@ fn unless_reserved(reserved: bool, instruction: Instruction) -> Instruction
     }
 }
 
-#[tactic(auto, unfolding(crate::specs::Compressed::quadrant_0))]
+#[tactic(auto, unfolding(crate::specs::promise::Compressed::quadrant_0))]
 fn quadrant_0(h: u32, n: u32) -> Instruction
     ensures { result ≡ quadrant_0 h n }
 {
@@ -202,7 +202,7 @@ fn quadrant_0(h: u32, n: u32) -> Instruction
 }
 
 // C.ADDI16SP and C.LUI.
-#[tactic(auto, unfolding(crate::specs::Compressed::upper_of))]
+#[tactic(auto, unfolding(crate::specs::promise::Compressed::upper_of))]
 fn upper(h: u32, rd: u8) -> Instruction
     ensures { result ≡ upper_of h rd }
 {
@@ -215,7 +215,7 @@ fn upper(h: u32, rd: u8) -> Instruction
 }
 
 // Of two registers.
-#[tactic(auto, unfolding(crate::specs::Compressed::registers_of))]
+#[tactic(auto, unfolding(crate::specs::promise::Compressed::registers_of))]
 fn registers(words: u32, n: u32) -> Operation
     ensures { result ≡ registers_of words n }
 {
@@ -235,7 +235,7 @@ fn registers(words: u32, n: u32) -> Operation
     }
 }
 
-#[tactic(auto, unfolding(crate::specs::Compressed::arithmetic_of))]
+#[tactic(auto, unfolding(crate::specs::promise::Compressed::arithmetic_of))]
 fn arithmetic(h: u32, n: u32) -> Instruction
     ensures { result ≡ arithmetic_of h n }
 {
@@ -248,7 +248,7 @@ fn arithmetic(h: u32, n: u32) -> Instruction
     }
 }
 
-#[tactic(auto, unfolding(crate::specs::Compressed::quadrant_1))]
+#[tactic(auto, unfolding(crate::specs::promise::Compressed::quadrant_1))]
 fn quadrant_1(h: u32, n: u32) -> Instruction
     ensures { result ≡ quadrant_1 h n }
 {
@@ -266,7 +266,7 @@ fn quadrant_1(h: u32, n: u32) -> Instruction
 }
 
 // C.JR and C.MV, or C.EBREAK, C.JALR and C.ADD.
-#[tactic(auto, unfolding(crate::specs::Compressed::move_of))]
+#[tactic(auto, unfolding(crate::specs::promise::Compressed::move_of))]
 fn move_or_jump(rd: u8, rs2: u8, adds: u32) -> Instruction
     ensures { result ≡ move_of rd rs2 adds }
 {
@@ -285,7 +285,7 @@ fn move_or_jump(rd: u8, rs2: u8, adds: u32) -> Instruction
     }
 }
 
-#[tactic(auto, unfolding(crate::specs::Compressed::quadrant_2))]
+#[tactic(auto, unfolding(crate::specs::promise::Compressed::quadrant_2))]
 fn quadrant_2(h: u32, n: u32) -> Instruction
     ensures { result ≡ quadrant_2 h n }
 {
@@ -314,7 +314,7 @@ fn by_quadrant(h: u32, n: u32) -> Instruction
 
 /// The instruction that a half stands for, as its expansion to 32 bits with a length of 2. Its operation is `Bad` where the half
 /// stands for none of RV64C without floating-point numbers: then the other fields mean nothing.
-#[tactic(auto, unfolding(crate::specs::Compressed::decode_compressed_of))]
+#[tactic(auto, unfolding(crate::specs::promise::Compressed::decode_compressed_of))]
 pub fn decode_compressed(half: u16) -> Instruction
     ensures { result ≡ decode_compressed_of half }
 {

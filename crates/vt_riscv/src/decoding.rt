@@ -1,7 +1,7 @@
 //! Instructions from words.
 
 ghost use Rattle.std.specs.Prelude.{◌≡◌};
-ghost use Rattle.vt_riscv.specs.Decoding.{by_sign, rd_of, rs1_of, rs2_of, i_immediate, s_immediate, b_immediate, u_immediate, j_immediate, r_type, i_type, s_type, b_type, u_type, j_type, shift_type, plain, branch_of, load_of, store_of, op_imm_of, op_imm_32_of, op_base_of, op_other_of, op_mul_of, op_of, op_32_base_of, op_32_other_of, op_32_mul_of, op_32_of, jalr_of, fence_of, system_of, decode_of};
+ghost use Rattle.vt_riscv.specs.promise.Decoding.{by_sign, rd_of, rs1_of, rs2_of, i_immediate, s_immediate, b_immediate, u_immediate, j_immediate, r_type, i_type, s_type, b_type, u_type, j_type, shift_type, plain, branch_of, load_of, store_of, op_imm_of, op_imm_32_of, op_base_of, op_other_of, op_mul_of, op_of, op_32_base_of, op_32_other_of, op_32_mul_of, op_32_of, jalr_of, fence_of, system_of, decode_of};
 
 use crate::{Instruction, Operation};
 
@@ -36,7 +36,7 @@ fn rs2(w: u32) -> u8
     (w / 0x10_0000 % 32) as u8
 }
 
-#[tactic(auto, unfolding(crate::specs::Decoding::r_type))]
+#[tactic(auto, unfolding(crate::specs::promise::Decoding::r_type))]
 fn r_type(operation: Operation, w: u32) -> Instruction
     ensures { result ≡ r_type operation w }
 {
@@ -50,7 +50,7 @@ fn r_type(operation: Operation, w: u32) -> Instruction
     }
 }
 
-#[tactic(auto, unfolding(crate::specs::Decoding::i_type))]
+#[tactic(auto, unfolding(crate::specs::promise::Decoding::i_type))]
 fn i_type(operation: Operation, w: u32) -> Instruction
     ensures { result ≡ i_type operation w }
 {
@@ -64,7 +64,7 @@ fn i_type(operation: Operation, w: u32) -> Instruction
     }
 }
 
-#[tactic(auto, unfolding(crate::specs::Decoding::s_type))]
+#[tactic(auto, unfolding(crate::specs::promise::Decoding::s_type))]
 fn s_type(operation: Operation, w: u32) -> Instruction
     ensures { result ≡ s_type operation w }
 {
@@ -78,7 +78,7 @@ fn s_type(operation: Operation, w: u32) -> Instruction
     }
 }
 
-#[tactic(auto, unfolding(crate::specs::Decoding::b_type))]
+#[tactic(auto, unfolding(crate::specs::promise::Decoding::b_type))]
 fn b_type(operation: Operation, w: u32) -> Instruction
     ensures { result ≡ b_type operation w }
 {
@@ -94,7 +94,7 @@ fn b_type(operation: Operation, w: u32) -> Instruction
     }
 }
 
-#[tactic(auto, unfolding(crate::specs::Decoding::u_type))]
+#[tactic(auto, unfolding(crate::specs::promise::Decoding::u_type))]
 fn u_type(operation: Operation, w: u32) -> Instruction
     ensures { result ≡ u_type operation w }
 {
@@ -108,7 +108,7 @@ fn u_type(operation: Operation, w: u32) -> Instruction
     }
 }
 
-#[tactic(auto, unfolding(crate::specs::Decoding::j_type))]
+#[tactic(auto, unfolding(crate::specs::promise::Decoding::j_type))]
 fn j_type(operation: Operation, w: u32) -> Instruction
     ensures { result ≡ j_type operation w }
 {
@@ -128,7 +128,7 @@ fn j_type(operation: Operation, w: u32) -> Instruction
 }
 
 // A shift by so many bits.
-#[tactic(auto, unfolding(crate::specs::Decoding::shift_type))]
+#[tactic(auto, unfolding(crate::specs::promise::Decoding::shift_type))]
 fn shift_type(operation: Operation, w: u32, amount: u32) -> Instruction
     ensures { result ≡ shift_type operation w amount }
 {
@@ -198,7 +198,7 @@ fn store(f3: u32) -> Operation
 }
 
 // OP-IMM.
-#[tactic(auto, unfolding(crate::specs::Decoding::op_imm_of))]
+#[tactic(auto, unfolding(crate::specs::promise::Decoding::op_imm_of))]
 fn op_imm(w: u32, f3: u32) -> Instruction
     ensures { result ≡ op_imm_of w f3 }
 {
@@ -229,7 +229,7 @@ fn op_imm(w: u32, f3: u32) -> Instruction
 }
 
 // OP-IMM-32.
-#[tactic(auto, unfolding(crate::specs::Decoding::op_imm_32_of))]
+#[tactic(auto, unfolding(crate::specs::promise::Decoding::op_imm_32_of))]
 fn op_imm_32(w: u32, f3: u32) -> Instruction
     ensures { result ≡ op_imm_32_of w f3 }
 {
@@ -296,7 +296,7 @@ fn op_mul(f3: u32) -> Operation
 }
 
 // OP.
-#[tactic(auto, unfolding(crate::specs::Decoding::op_of))]
+#[tactic(auto, unfolding(crate::specs::promise::Decoding::op_of))]
 fn op(f7: u32, f3: u32) -> Operation
     ensures { result ≡ op_of f7 f3 }
 {
@@ -343,7 +343,7 @@ fn op_32_mul(f3: u32) -> Operation
 }
 
 // OP-32.
-#[tactic(auto, unfolding(crate::specs::Decoding::op_32_of))]
+#[tactic(auto, unfolding(crate::specs::promise::Decoding::op_32_of))]
 fn op_32(f7: u32, f3: u32) -> Operation
     ensures { result ≡ op_32_of f7 f3 }
 {
@@ -386,7 +386,7 @@ fn system(w: u32) -> Operation
 
 /// The instruction that a word stands for. Its operation is `Bad` where the word stands for none of RV64I and M: then the other
 /// fields mean nothing.
-#[tactic(auto, unfolding(crate::specs::Decoding::decode_of))]
+#[tactic(auto, unfolding(crate::specs::promise::Decoding::decode_of))]
 pub fn decode(word: u32) -> Instruction
     ensures { result ≡ decode_of word }
 {

@@ -1,7 +1,7 @@
 //! What instructions do, by the numbers in their registers.
 
 ghost use Rattle.std.specs.Prelude.{◌≡◌};
-ghost use Rattle.vt_riscv.specs.Effects.{effect_of};
+ghost use Rattle.vt_riscv.specs.promise.Effects.{effect_of};
 
 use crate::arithmetic::{
     difference_of_words, left_of_word, less_signed, product_of_words, quotient, quotient_of_words,

@@ -1,7 +1,7 @@
 //! The machine, and what one instruction does to it.
 
 ghost use Rattle.std.specs.Prelude.{◌≡◌};
-ghost use Rattle.vt_riscv.specs.Steps.{is_misaligned, fetch_of, with_register, put_in, passed, jumped, branched, register_of, loaded_from, loaded, loaded_signed, stored_at, exec_of, step_of, run_of, answered};
+ghost use Rattle.vt_riscv.specs.promise.Steps.{is_misaligned, fetch_of, with_register, put_in, passed, jumped, branched, register_of, loaded_from, loaded, loaded_signed, stored_at, exec_of, step_of, run_of, answered};
 
 use crate::effect::{Effect, effect_of};
 use crate::memory::{Size, extended, number_within, store, width};

@@ -2,7 +2,7 @@
 
 ghost use Rattle.std.specs.Prelude.{◌≡◌, ◌+◌, ◌≤◌, length};
 ghost use Rattle.vt_riscv.specs.declared.memory.Size.TheVariants.{Half, Word, Double};
-ghost use Rattle.vt_riscv.specs.Memory.{width, number_at, number_within, stored, extended};
+ghost use Rattle.vt_riscv.specs.promise.Memory.{width, number_at, number_within, stored, extended};
 
 /// How many bytes a number has in memory.
 #[derive(Clone, Copy)]

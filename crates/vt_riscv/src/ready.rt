@@ -2,7 +2,7 @@
 
 ghost use Rattle.std.specs.Prelude.{◌≡◌, ℕ, ◌<◌, ◌≤◌, ◌^◌, length, slice_index, IfOk, IfSome};
 ghost use Rattle.vt_riscv.specs.declared.ready.TheConstants.{NONE};
-ghost use Rattle.vt_riscv.specs.Readiness.{place_at, head_at, ended, step_of, IsMade, IsReady, IsAimed, AreReady};
+ghost use Rattle.vt_riscv.specs.inside.Readiness.{place_at, head_at, ended, step_of, IsMade, IsReady, IsAimed, AreReady};
 
 use crate::{IMAGE, Instruction, Operation};
 use std::alloc::{AllocError, Global};

@@ -1,10 +1,10 @@
 //! Many steps in a row, in which the machine's place is the index of an instruction.
 
 ghost use Rattle.std.specs.Prelude.{◌≡◌, ◌+◌, ◌-◌, ◌%◌, ◌<◌, ◌≤◌, length, slice_index};
-ghost use Rattle.vt_riscv.specs.Arithmetic.{sum};
-ghost use Rattle.vt_riscv.specs.Readiness.{place_at, head_at, instruction_at, IsSmall};
-ghost use Rattle.vt_riscv.specs.Steps.{register_of, with_register, behind, put_in, branched, jumped, loaded, loaded_signed, stored_at, exec_of, run_of};
-ghost use Rattle.vt_riscv.specs.Sprints.{at_index, seen, due, rest_of, IsAim};
+ghost use Rattle.vt_riscv.specs.promise.Arithmetic.{sum};
+ghost use Rattle.vt_riscv.specs.inside.Readiness.{place_at, head_at, instruction_at, IsSmall};
+ghost use Rattle.vt_riscv.specs.promise.Steps.{register_of, with_register, behind, put_in, branched, jumped, loaded, loaded_signed, stored_at, exec_of, run_of};
+ghost use Rattle.vt_riscv.specs.inside.Sprints.{at_index, seen, due, rest_of, IsAim};
 
 use crate::effect::{Effect, effect_of};
 use crate::machine::is_misaligned;

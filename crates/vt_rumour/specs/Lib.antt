@@ -1,2 +1,1 @@
-pub mod Rumour
-pub mod RumourLaws
+pub mod inside

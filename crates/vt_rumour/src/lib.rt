@@ -2,9 +2,9 @@
 #![tactic(auto)]
 
 ghost use Rattle.std.specs.Prelude.{◌≡◌, ◌+◌, ◌≤◌, []};
-ghost use Rattle.vt_model.specs.Sends.{with_requests};
+ghost use Rattle.vt_model.specs.inside.Sends.{with_requests};
 ghost use Rattle.vt_model.specs.declared.limits.TheConstants.{MAX_SENDS};
-ghost use Rattle.vt_rumour.specs.Rumour.{told};
+ghost use Rattle.vt_rumour.specs.inside.Rumour.{told};
 
 use vt_key::When;
 use vt_model::{Bits, Draws, Model as EventModel, Out};
@@ -51,8 +51,8 @@ impl EventModel for Rumour {
 
     ghost use Rattle.std.proofs.Common.{lit<, lit≤};
     ghost use Rattle.std.specs.Prelude.{◌<◌, ◌^◌};
-    ghost use Rattle.vt_rumour.specs.Rumour.{rumour_handlers};
-    ghost use Rattle.vt_rumour.specs.RumourLaws.{start_within, forward_within, start_state, forward_state, undoes};
+    ghost use Rattle.vt_rumour.specs.inside.Rumour.{rumour_handlers};
+    ghost use Rattle.vt_rumour.specs.inside.RumourLaws.{start_within, forward_within, start_state, forward_state, undoes};
 
     ghost handlers = { rumour_handlers };
 

@@ -3,8 +3,8 @@ use Rattle.std.proofs.Common.{◌≡◌, ◌∙◌, ℕ, List, [], ◌∷◌, ap
 use Rattle.std.proofs.lemmas.List.{length-map}
 use Rattle.std.proofs.lemmas.Grind.{get_or_head}
 use Rattle.vt_options.specs.declared.own.OwnOption.{OwnOption}
-use Rattle.vt_options.specs.Own.{only, number_table, number_option, AreInRange, AreWithin, GiveModel}
-use Rattle.vt_options.specs.Table.{Given, NumberOption}
+use Rattle.vt_options.specs.promise.Own.{only, number_table, number_option, AreInRange, AreWithin, GiveModel}
+use Rattle.vt_options.specs.promise.Table.{Given, NumberOption}
 use Rattle.vt_tasks.proofs.ModelsLemmas as models
 
 -- they are those of its options

@@ -4,34 +4,37 @@ use Rattle.std.specs.Io.KnownBytes.{Appends}
 use Rattle.std.proofs.KnownBytes.{Appends-trans}
 use Rattle.std.proofs.Math.Seq.{drop-append_seam}
 use Rattle.std.proofs.lemmas.Bool.{cases_lt}
-use Rattle.vt_key.specs.Times.{Time, opening_time}
+use Rattle.vt_key.specs.promise.Times.{Time, opening_time}
 use Rattle.vt_key.specs.declared.fault.Fault.{Fault}
 use Rattle.vt_key.specs.declared.fault.Fault.TheVariants.{Memory, Output, TurnsSpent}
-use Rattle.vt_key.specs.Lists.{Among}
+use Rattle.vt_key.specs.promise.Lists.{Among}
 use Rattle.vt_model.specs.declared.rows.Row.{Row}
 use Rattle.vt_model.specs.declared.rows.Record.{Record}
 use Rattle.vt_model.specs.declared.sending.Sent.{Sent}
 use Rattle.vt_model.specs.declared.settings.Config.{Config}
-use Rattle.vt_model.specs.Handler.{Handlers}
-use Rattle.vt_model.specs.Histories.{IsLawful}
-use Rattle.vt_model.specs.Simulation.{Simulation, simulation_of}
-use Rattle.vt_model.specs.Sequential.{opening, weight, after_steps, whole_run, rows_after, seq_records, seq_finals}
-use Rattle.vt_model.specs.Settings.{end_of}
+use Rattle.vt_model.specs.promise.Handler.{Handlers}
+use Rattle.vt_model.specs.promise.Histories.{IsLawful}
+use Rattle.vt_model.specs.promise.Simulation.{Simulation, simulation_of}
+use Rattle.vt_model.specs.promise.Sequential.{opening, weight, after_steps, whole_run, rows_after, seq_records, seq_finals}
+use Rattle.vt_model.specs.promise.Settings.{end_of}
 use Rattle.vt_model.proofs.RowLemmas.{all_before}
 use Rattle.vt_model.proofs.RunLemmas.{known_sent, lists_of, reached}
 use Rattle.vt_steps.proofs.book.SequentialRows.{seq_records-begin}
 use Rattle.vt_station.specs.declared.pieces.Standing.{Standing}
 use Rattle.vt_station.specs.declared.pieces.Standing.TheVariants.{GoesOn, Whole, Stopped}
-use Rattle.vt_station.specs.Crew.{AtJob, IsStop, IsPieceOf, IsHandOutRefusal, StandsBy, wanted_finals}
-use Rattle.vt_station.specs.Turns.{IsLasting}
+use Rattle.vt_station.specs.promise.Crew.{IsStop}
+use Rattle.vt_station.specs.inside.Crew.{AtJob, IsPieceOf, IsHandOutRefusal, StandsBy, wanted_finals}
+use Rattle.vt_station.specs.promise.Turns.{IsLasting}
 use Rattle.vt_station.proofs.CrewLemmas.{none-at-first}
 use Rattle.vt_text.specs.declared.version.Version.{Version}
-use Rattle.vt_text.specs.Writing.{AppendsBeginning, AppendsAllButHeld}
+use Rattle.vt_text.specs.promise.Writing.{AppendsBeginning}
+use Rattle.vt_text.specs.inside.Writing.{AppendsAllButHeld}
 use Rattle.vt_text.proofs.TextLemmas.{written, flush_fails, of_longer, put_fails}
-use Rattle.vt_tasks.specs.Printed.{final_lines, finals_text, printed_lines, printed_text}
-use Rattle.vt_tasks.specs.Runs.{text_below, run_text, WritesBelow, StopsWork}
+use Rattle.vt_tasks.specs.promise.Printed.{final_lines, finals_text, printed_lines, printed_text}
+use Rattle.vt_tasks.specs.promise.Runs.{text_below, run_text, WritesBelow}
+use Rattle.vt_tasks.specs.inside.Runs.{StopsWork}
 use Rattle.vt_tasks.proofs.PrintLemmas.{printed_text-append}
-use Rattle.vt_runner.specs.Pieces.{AreWritten, IsUnread, IsOverBy, wanted_of}
+use Rattle.vt_runner.specs.inside.Pieces.{AreWritten, IsUnread, IsOverBy, wanted_of}
 
 module _ {S P : Type 0} (sim : Simulation S P) (lawful : IsLawful sim) where
   -- each event of the whole run is before the end

@@ -1,18 +1,19 @@
 -- How many workers a run has makes no difference to its text.
 use Rattle.std.proofs.Common.{◌≡◌, ◌∙◌, ◌++◌, ◌≤◌, ℕ, zero, suc, Bool, List, [], ◌∷◌, Option, refl, ap, ap₂, map, subst, arith, if◌then◌else◌}
 use Rattle.std.specs.List.{range_with_len}
-use Rattle.vt_key.specs.Times.{Time, at}
+use Rattle.vt_key.specs.promise.Times.{Time, at}
 use Rattle.vt_key.specs.declared.fault.Fault.{Fault}
 use Rattle.vt_key.specs.declared.fault.Fault.TheVariants.{Memory, NotLawful, Busy, Closed, Exhausted, TurnsSpent, BadOption, BadStep, Output}
 use Rattle.vt_model.specs.declared.rows.Row.{Row}
 use Rattle.vt_model.specs.declared.sending.Sent.{Sent}
 use Rattle.vt_model.specs.declared.settings.Config.{Config}
-use Rattle.vt_model.specs.Handler.{Handlers}
-use Rattle.vt_model.specs.Simulation.{Simulation, simulation_of, start_of, fire_of, words_at, after}
-use Rattle.vt_model.specs.Sequential.{RunState, fired_after, opening, step, after_steps, weight, whole_run, events_of, rows_after, rows_before, records_of, seq_records, seq_finals}
+use Rattle.vt_model.specs.promise.Handler.{Handlers}
+use Rattle.vt_model.specs.promise.Simulation.{Simulation, simulation_of, start_of, fire_of, words_at, after}
+use Rattle.vt_model.specs.promise.Sequential.{RunState, fired_after, opening, step, after_steps, weight, whole_run, events_of, rows_after, rows_before, records_of, seq_records, seq_finals}
 use Rattle.vt_text.specs.declared.version.Version.{Version}
-use Rattle.vt_tasks.specs.Printed.{final_lines, finals_text, printed_text}
-use Rattle.vt_tasks.specs.Runs.{text_below, run_text, StopsWork}
+use Rattle.vt_tasks.specs.promise.Printed.{final_lines, finals_text, printed_text}
+use Rattle.vt_tasks.specs.promise.Runs.{text_below, run_text}
+use Rattle.vt_tasks.specs.inside.Runs.{StopsWork}
 
 module _ {S P : Type 0} (sim : Simulation S P) (w : ℕ) where
   abbrev other : Simulation S P

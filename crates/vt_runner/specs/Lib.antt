@@ -1,2 +1,2 @@
-pub mod OneModel
-pub mod Pieces
+pub mod promise
+pub mod inside

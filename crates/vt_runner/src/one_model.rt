@@ -4,14 +4,15 @@ ghost use Rattle.std.specs.Prelude.{◌≡◌, ◌≢◌, None, Some, length, ma
 ghost use Rattle.std.specs.Fn.{FnReturnsAt};
 ghost use Rattle.std.specs.Io.KnownBytes.{Keeps};
 ghost use Rattle.clap.specs.Words.{Text};
-ghost use Rattle.vt_key.specs.Faults.{option_named};
+ghost use Rattle.vt_key.specs.promise.Faults.{option_named};
 ghost use Rattle.vt_key.specs.declared.fault.Fault.{Fault};
-ghost use Rattle.vt_options.specs.Own.{HaveDefaults, AreWithin, own_app, own_line};
-ghost use Rattle.vt_options.specs.Requests.{AskHelpOf, IsRefusedAsOf};
-ghost use Rattle.vt_tasks.specs.Refusals.{TellsRefusalOf, status_of};
-ghost use Rattle.vt_tasks.specs.Tasks.{BeginsWithinLimit};
-ghost use Rattle.vt_tasks.specs.Models.{any_handlers, CarriesOut};
-ghost use Rattle.vt_runner.specs.OneModel.{MakesBy, option_unsettled, IsDoneOf, EndsOf, IsReadOf, AskBadLineOf};
+ghost use Rattle.vt_options.specs.promise.Own.{HaveDefaults, AreWithin, own_app, own_line};
+ghost use Rattle.vt_options.specs.promise.Requests.{AskHelpOf, IsRefusedAsOf};
+ghost use Rattle.vt_tasks.specs.promise.Refusals.{TellsRefusalOf, status_of};
+ghost use Rattle.vt_tasks.specs.inside.Tasks.{BeginsWithinLimit};
+ghost use Rattle.vt_tasks.specs.promise.Models.{any_handlers};
+ghost use Rattle.vt_tasks.specs.inside.Models.{CarriesOut};
+ghost use Rattle.vt_runner.specs.promise.OneModel.{MakesBy, option_unsettled, IsDoneOf, EndsOf, IsReadOf, AskBadLineOf};
 
 use crate::carry_out;
 use std::alloc::Global;

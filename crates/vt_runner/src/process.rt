@@ -4,14 +4,15 @@ ghost use Rattle.std.specs.Prelude.{◌≡◌, ◌≢◌, ◌⊎◌, ◌++◌, L
 ghost use Rattle.std.specs.Fn.{FnReturnsAt};
 ghost use Rattle.std.specs.Io.KnownBytes.{Keeps};
 ghost use Rattle.clap.specs.Words.{Text};
-ghost use Rattle.vt_key.specs.Faults.{option_named};
+ghost use Rattle.vt_key.specs.promise.Faults.{option_named};
 ghost use Rattle.vt_key.specs.declared.fault.Fault.{Fault};
 ghost use Rattle.vt_key.specs.declared.fault.Fault.TheVariants.{Memory};
-ghost use Rattle.vt_options.specs.Hints.{IsHintOn, TellsTurns};
-ghost use Rattle.vt_options.specs.Own.{HaveDefaults, AreWithin, only, own_line};
-ghost use Rattle.vt_options.specs.Taken.{own_names, taken_in};
-ghost use Rattle.vt_tasks.specs.Refusals.{TellsRefusalOf, status_of};
-ghost use Rattle.vt_runner.specs.OneModel.{IsDoneOf, EndsOf, IsReadOf, IsRefusedUnasked};
+ghost use Rattle.vt_options.specs.inside.Hints.{IsHintOn, TellsTurns};
+ghost use Rattle.vt_options.specs.promise.Own.{HaveDefaults, AreWithin, only, own_line};
+ghost use Rattle.vt_options.specs.inside.Taken.{own_names, taken_in};
+ghost use Rattle.vt_tasks.specs.promise.Refusals.{TellsRefusalOf, status_of};
+ghost use Rattle.vt_runner.specs.promise.OneModel.{IsDoneOf, EndsOf, IsReadOf};
+ghost use Rattle.vt_runner.specs.inside.OneModel.{IsRefusedUnasked};
 
 use crate::one_model::{Made, OWN_HEADING, Streams, model_program};
 use std::alloc::Global;

@@ -2,14 +2,14 @@
 
 ghost use Rattle.std.specs.Prelude.{◌≡◌, ◌<◌, ◌≤◌, ◌⊎◌, OnOk, IfErr};
 ghost use Rattle.std.specs.Io.KnownBytes.{Appends};
-ghost use Rattle.vt_model.specs.Histories.{IsLawful};
-ghost use Rattle.vt_model.specs.Simulation.{simulation_of};
+ghost use Rattle.vt_model.specs.promise.Histories.{IsLawful};
+ghost use Rattle.vt_model.specs.promise.Simulation.{simulation_of};
 ghost use Rattle.vt_station.specs.declared.pieces.Standing.TheVariants.{GoesOn, Whole};
-ghost use Rattle.vt_station.specs.Crew.{wanted_finals};
-ghost use Rattle.vt_text.specs.Writing.{AppendsBeginning};
-ghost use Rattle.vt_runner.specs.Pieces.{AreWritten, IsUnread, IsDue, wanted_of};
-ghost use Rattle.vt_tasks.specs.Printed.{final_lines};
-ghost use Rattle.vt_tasks.specs.Runs.{WritesWhole, StopsInThreads, StopsAsSet};
+ghost use Rattle.vt_station.specs.inside.Crew.{wanted_finals};
+ghost use Rattle.vt_text.specs.promise.Writing.{AppendsBeginning};
+ghost use Rattle.vt_runner.specs.inside.Pieces.{AreWritten, IsUnread, IsDue, wanted_of};
+ghost use Rattle.vt_tasks.specs.promise.Printed.{final_lines};
+ghost use Rattle.vt_tasks.specs.inside.Runs.{WritesWhole, StopsInThreads, StopsAsSet};
 
 use crate::starting::test_threads;
 use std::alloc::Global;

@@ -1,7 +1,7 @@
 //! A run or a replay of a model, whichever is asked for.
 
 ghost use Rattle.std.specs.Prelude.{OnOk, IfErr};
-ghost use Rattle.vt_tasks.specs.Tasks.{BeginsWithinLimit, IsTaskDone, TaskEnds, KeepsInput};
+ghost use Rattle.vt_tasks.specs.inside.Tasks.{BeginsWithinLimit, IsTaskDone, TaskEnds, KeepsInput};
 
 use crate::simulate;
 use std::alloc::Global;

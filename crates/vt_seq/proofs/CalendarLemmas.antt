@@ -10,14 +10,14 @@ use Rattle.std.proofs.Math.Seq.{map-set_same}
 use Rattle.std.proofs.Math.Nat.{div-mul-le_self}
 use Rattle.std.proofs.lemmas.Nat.{le-div, pow_pos}
 use Rattle.std.proofs.lemmas.List.Sorted.{length_permutation, IsPermutation-refl, IsPermutation-sym, IsPermutation-trans, IsPermutation-append_left, IsPermutation-append_right, IsPermutation-append_comm, IsPermutation-middle, IsPermutation-to_front, IsPermutation-map}
-use Rattle.vt_key.specs.Order.{KeyBefore}
-use Rattle.vt_key.specs.Times.{ticks_of}
-use Rattle.vt_key.specs.Lists.{Among}
+use Rattle.vt_key.specs.promise.Order.{KeyBefore}
+use Rattle.vt_key.specs.promise.Times.{ticks_of}
+use Rattle.vt_key.specs.promise.Lists.{Among}
 use Rattle.vt_key.proofs.ListLemmas.{every-weaker, among-append, among-left, among-right, map-among, rising-left, rising-across}
 use Rattle.vt_model.specs.declared.sending.Sent.{Sent}
 use Rattle.vt_seq.specs.declared.entry.Entry.{Entry}
-use Rattle.vt_seq.specs.Entries.{entry_cmp, events_in, IsLeastEntry, IsFalling}
-use Rattle.vt_seq.specs.Days.{day_of, entries_of_days, is_used, IsPut, IsDayTaken, AreDated, AreJustBefore}
+use Rattle.vt_seq.specs.inside.Entries.{entry_cmp, events_in, IsLeastEntry, IsFalling}
+use Rattle.vt_seq.specs.inside.Days.{day_of, entries_of_days, is_used, IsPut, IsDayTaken, AreDated, AreJustBefore}
 use Rattle.vt_seq.proofs.HeapLemmas.{less-key, not-before-trans, among-permuted, least-append, least-popped}
 
 -- what is found in a list of which one place was set

@@ -2,24 +2,24 @@
 use Rattle.std.proofs.Common.{◌≡◌, ℕ, zero, suc, ◌+◌, ◌<◌, ◌≤◌, inr, List, [], ◌∷◌, ◌++◌, Option, Some, None, filter, map, nat_lt, sym, subst, ap, ◌∙◌, arith, append_assoc, append-nil}
 use Rattle.std.specs.Option.{option_map_or}
 use Rattle.std.proofs.lemmas.List.{map-append}
-use Rattle.vt_key.specs.Times.{time_before}
+use Rattle.vt_key.specs.promise.Times.{time_before}
 use Rattle.vt_key.specs.declared.limits.TheConstants.{MAX_COUNT}
-use Rattle.vt_key.specs.Lists.{Among}
+use Rattle.vt_key.specs.promise.Lists.{Among}
 use Rattle.vt_model.specs.declared.process.Process.{Process}
 use Rattle.vt_model.specs.declared.rows.Record.{Record}
 use Rattle.vt_model.specs.declared.rows.Row.{Row}
 use Rattle.vt_model.specs.declared.sending.Sent.{Sent}
-use Rattle.vt_model.specs.Histories.{IsLawful}
-use Rattle.vt_model.specs.Process.{triple_at}
-use Rattle.vt_model.specs.Rows.{record_time}
-use Rattle.vt_model.specs.Simulation.{Simulation, Fired, Triple, after}
-use Rattle.vt_model.specs.Sequential.{RunState, opening, events_of, least_event, fired_after, with_event, after_steps, weight, whole_run, rows_after, records_of, seq_records}
+use Rattle.vt_model.specs.promise.Histories.{IsLawful}
+use Rattle.vt_model.specs.inside.Process.{triple_at}
+use Rattle.vt_model.specs.promise.Rows.{record_time}
+use Rattle.vt_model.specs.promise.Simulation.{Simulation, Fired, Triple, after}
+use Rattle.vt_model.specs.promise.Sequential.{RunState, opening, events_of, least_event, fired_after, with_event, after_steps, weight, whole_run, rows_after, records_of, seq_records}
 use Rattle.vt_model.proofs.EndLemmas.{ends, no_step, executed_all}
 use Rattle.vt_model.proofs.RowLemmas.{all_before, told_before}
 use Rattle.vt_model.proofs.RunLemmas.{known_sent, lists_of, reached}
-use Rattle.vt_seq.specs.Given.{records_to, BeginRun, AddsStep}
-use Rattle.vt_seq.specs.Limits.{IsCounted, IsCountedWhole}
-use Rattle.vt_seq.specs.StandsFor.{StandsAt, HasExecuted}
+use Rattle.vt_seq.specs.inside.Given.{records_to, BeginRun, AddsStep}
+use Rattle.vt_seq.specs.inside.Limits.{IsCounted, IsCountedWhole}
+use Rattle.vt_seq.specs.inside.StandsFor.{StandsAt, HasExecuted}
 use Rattle.vt_seq.proofs.StepLemmas.{IsNext, step_is, seated, none_pending}
 
 module _ {S P : Type 0} (sim : Simulation S P) where

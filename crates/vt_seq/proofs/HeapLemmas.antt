@@ -10,17 +10,18 @@ use Rattle.std.proofs.lemmas.List.{map-append}
 use Rattle.std.proofs.lemmas.List.Sums.{sum_by-cons}
 use Rattle.std.proofs.lemmas.List.Sorted.{Contains-permutation, IsPermutation-append_left, IsPermutation-append_right, IsPermutation-map, IsPermutation-middle, IsPermutation-refl, IsPermutation-sym, IsPermutation-trans, sum_by-IsPermutation}
 use Rattle.std.proofs.lemmas.Bool.{cases_Bool}
-use Rattle.vt_key.specs.Keys.{Key, key_cmp}
-use Rattle.vt_key.specs.Order.{KeyBefore, key_before, key_same}
-use Rattle.vt_key.specs.Lists.{Among}
+use Rattle.vt_key.specs.promise.Keys.{Key}
+use Rattle.vt_key.specs.inside.Keys.{key_cmp}
+use Rattle.vt_key.specs.promise.Order.{KeyBefore, key_before, key_same}
+use Rattle.vt_key.specs.promise.Lists.{Among}
 use Rattle.vt_key.proofs.OrderLemmas.{key-irreflexive, key-asymmetric, key-transitive, key-total, key_before-true, before-key_before, key_same-true, same-key_same}
 use Rattle.vt_key.proofs.ListLemmas.{among-append}
 use Rattle.vt_model.specs.declared.sending.Sent.{Sent}
-use Rattle.vt_model.specs.Histories.{IsRising}
+use Rattle.vt_model.specs.inside.Histories.{IsRising}
 use Rattle.vt_model.proofs.HistoryLemmas.{rising-same}
 use Rattle.vt_seq.specs.declared.entry.Entry.{Entry}
-use Rattle.vt_seq.specs.Queue.{inserted, all_inserted}
-use Rattle.vt_seq.specs.Entries.{entry_cmp, events_in, in_order, count_key, AreApart, IsLeastEntry, IsQueue}
+use Rattle.vt_seq.specs.inside.Queue.{inserted, all_inserted}
+use Rattle.vt_seq.specs.inside.Entries.{entry_cmp, events_in, in_order, count_key, AreApart, IsLeastEntry, IsQueue}
 use Rattle.vt_seq.proofs.InsertedLemmas.{inserted-rising, inserted-sum, all_inserted-among, among-all_inserted}
 use Rattle.vt_seq.proofs.StepLemmas.{among-at}
 

@@ -2,14 +2,15 @@
 use Rattle.std.proofs.Common.{◌≡◌, ℕ, suc, ◌+◌, ◌<◌, ◌≤◌, ◌⊎◌, inl, inr, List, [], ◌∷◌, true, false, cond, refl, sym, ap, ◌∙◌, arith}
 use Rattle.std.specs.List.{sum_by}
 use Rattle.std.proofs.lemmas.List.Sums.{sum_by-cons}
-use Rattle.vt_key.specs.Keys.{Key}
-use Rattle.vt_key.specs.Order.{KeyBefore, key_before}
-use Rattle.vt_key.specs.Lists.{Among}
+use Rattle.vt_key.specs.promise.Keys.{Key}
+use Rattle.vt_key.specs.promise.Order.{KeyBefore, key_before}
+use Rattle.vt_key.specs.promise.Lists.{Among}
 use Rattle.vt_key.proofs.ListLemmas.{every-insert_ordered, every-weaker, among-insert_ordered, insert_ordered-among}
 use Rattle.vt_key.proofs.OrderLemmas.{key-transitive, key-total, key_before-true, before-key_before}
 use Rattle.vt_model.specs.declared.sending.Sent.{Sent}
-use Rattle.vt_model.specs.Histories.{IsRising, AreNumbered}
-use Rattle.vt_seq.specs.Queue.{inserted, all_inserted, HaveNewKeys}
+use Rattle.vt_model.specs.promise.Histories.{AreNumbered}
+use Rattle.vt_model.specs.inside.Histories.{IsRising}
+use Rattle.vt_seq.specs.inside.Queue.{inserted, all_inserted, HaveNewKeys}
 
 module _ {P : Type 0} where
   pub inserted-rising : (e : Sent P) (ds : List (Sent P)) → IsRising ds → ((d : Sent P) → Among d ds → d.key ≡ e.key → ⊥) → IsRising (inserted e ds)

@@ -7,26 +7,26 @@ use Rattle.std.specs.Option.{option_map}
 use Rattle.std.proofs.lemmas.Bool.{and_parts, and_from}
 use Rattle.std.proofs.lemmas.List.Elements.{All-from_recursion, recursion_from_All}
 use Rattle.std.proofs.lemmas.List.Sums.{AllPass-from_list_all, list_all-from_AllPass}
-use Rattle.vt_key.specs.Keys.{Key}
-use Rattle.vt_key.specs.Order.{KeyBefore, key_before}
-use Rattle.vt_key.specs.Times.{ticks_of}
-use Rattle.vt_key.specs.Lists.{Among}
+use Rattle.vt_key.specs.promise.Keys.{Key}
+use Rattle.vt_key.specs.promise.Order.{KeyBefore, key_before}
+use Rattle.vt_key.specs.promise.Times.{ticks_of}
+use Rattle.vt_key.specs.promise.Lists.{Among}
 use Rattle.vt_key.proofs.ListLemmas.{every-among, every-weaker}
 use Rattle.vt_key.proofs.OrderLemmas.{key_before-true, before-key_before}
 use Rattle.vt_model.specs.declared.process.Process.{Process}
 use Rattle.vt_model.specs.declared.rows.Record.{Record}
 use Rattle.vt_model.specs.declared.sending.Sent.{Sent}
 use Rattle.vt_model.specs.declared.settings.Config.{Config}
-use Rattle.vt_model.specs.Handler.{Handlers}
-use Rattle.vt_model.specs.Simulation.{Simulation, Triple, simulation_of, after}
-use Rattle.vt_model.specs.Sequential.{after_steps, events_of, seq_records}
-use Rattle.vt_model.specs.Histories.{AllAfter, IsRising}
-use Rattle.vt_model.specs.Process.{triple_at}
-use Rattle.vt_seq.specs.Limits.{IsCountedWhole}
-use Rattle.vt_seq.specs.Given.{records_to, AddsStep, AddsSteps, AddsRest}
-use Rattle.vt_seq.specs.Progress.{Progress, IsAfter, with_records}
-use Rattle.vt_seq.specs.Standing.{Standing, IsAt, IsOnWay}
-use Rattle.vt_seq.specs.StandsFor.{StandsAt}
+use Rattle.vt_model.specs.promise.Handler.{Handlers}
+use Rattle.vt_model.specs.promise.Simulation.{Simulation, Triple, simulation_of, after}
+use Rattle.vt_model.specs.promise.Sequential.{after_steps, events_of, seq_records}
+use Rattle.vt_model.specs.inside.Histories.{AllAfter, IsRising}
+use Rattle.vt_model.specs.inside.Process.{triple_at}
+use Rattle.vt_seq.specs.inside.Limits.{IsCountedWhole}
+use Rattle.vt_seq.specs.inside.Given.{records_to, AddsStep, AddsSteps, AddsRest}
+use Rattle.vt_seq.specs.inside.Progress.{Progress, IsAfter, with_records}
+use Rattle.vt_seq.specs.inside.Standing.{Standing, IsAt, IsOnWay}
+use Rattle.vt_seq.specs.inside.StandsFor.{StandsAt}
 
 -- ---- a test of rising keys
 

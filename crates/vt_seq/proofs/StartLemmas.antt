@@ -4,19 +4,21 @@ use Rattle.std.proofs.Math.Seq.{get_or-append_seam}
 use Rattle.std.proofs.lemmas.List.{get_or_append_left}
 use Rattle.std.proofs.lemmas.Bool.{eqb-true, eq-eqb, cases_Bool}
 use Rattle.std.proofs.Common.{length-append}
-use Rattle.vt_key.specs.Lists.{Among}
+use Rattle.vt_key.specs.promise.Lists.{Among}
 use Rattle.vt_model.specs.declared.sending.Sent.{Sent}
-use Rattle.vt_model.specs.Histories.{IsRising, IsLawful}
-use Rattle.vt_model.specs.Simulation.{Simulation, words_at, start_of}
-use Rattle.vt_model.specs.Handler.{StartResult}
-use Rattle.vt_model.specs.Sends.{Outgoing, with_requests}
+use Rattle.vt_model.specs.promise.Histories.{IsLawful}
+use Rattle.vt_model.specs.inside.Histories.{IsRising}
+use Rattle.vt_model.specs.promise.Simulation.{Simulation, words_at, start_of}
+use Rattle.vt_model.specs.promise.Handler.{StartResult}
+use Rattle.vt_model.specs.inside.Sends.{Outgoing, with_requests}
 use Rattle.vt_model.specs.declared.limits.TheConstants.{MAX_DRAWS}
-use Rattle.vt_stream.specs.Words.{Stream, seed_key, word_of, moved}
+use Rattle.vt_stream.specs.promise.Words.{seed_key}
+use Rattle.vt_stream.specs.inside.Words.{Stream, word_of, moved}
 use Rattle.vt_model.proofs.FireLemmas.{IsStart, starts}
 use Rattle.vt_model.proofs.RunLemmas.{numbered-among, among-below, below-among}
-use Rattle.vt_model.specs.Process.{triple_at}
-use Rattle.vt_seq.specs.StandsFor.{StandsAt, HasStarted}
-use Rattle.vt_seq.specs.Queue.{all_inserted}
+use Rattle.vt_model.specs.inside.Process.{triple_at}
+use Rattle.vt_seq.specs.inside.StandsFor.{StandsAt, HasStarted}
+use Rattle.vt_seq.specs.inside.Queue.{all_inserted}
 use Rattle.vt_model.specs.declared.process.Process.{Process}
 use Rattle.vt_seq.proofs.InsertedLemmas.{all_inserted-among, among-all_inserted, all_inserted-rising}
 

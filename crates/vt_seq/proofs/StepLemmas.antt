@@ -7,29 +7,31 @@ use Rattle.std.proofs.lemmas.List.Sums.{sum_by-cons}
 use Rattle.std.proofs.lemmas.Option.{slice_get-get_or}
 use Rattle.std.proofs.lemmas.Bool.{eqb-true, eq-eqb, ltb-true, cases_Bool}
 use Rattle.vt_key.specs.declared.fault.Fault.{Fault}
-use Rattle.vt_key.specs.Times.{time_left}
+use Rattle.vt_key.specs.promise.Times.{time_left}
 use Rattle.vt_key.specs.declared.limits.TheConstants.{MAX_COUNT}
-use Rattle.vt_key.specs.Keys.{Key}
-use Rattle.vt_key.specs.Order.{KeyBefore, key_same}
-use Rattle.vt_key.specs.Lists.{Among}
+use Rattle.vt_key.specs.promise.Keys.{Key}
+use Rattle.vt_key.specs.promise.Order.{KeyBefore, key_same}
+use Rattle.vt_key.specs.promise.Lists.{Among}
 use Rattle.vt_key.proofs.OrderLemmas.{key-irreflexive, key_same-true, same-key_same}
 use Rattle.vt_key.proofs.ListLemmas.{every-among, among-left, among-right, among-append, among-filter, filter-among, get-among}
 use Rattle.vt_model.specs.declared.limits.TheConstants.{MAX_SENDS}
 use Rattle.vt_model.specs.declared.rows.Record.{Record}
 use Rattle.vt_model.specs.declared.sending.Sent.{Sent}
-use Rattle.vt_model.specs.Simulation.{Simulation, Fired, Triple, after, simulation_of}
-use Rattle.vt_model.specs.Sequential.{RunState, events_of, least_event, fired_after, with_event, after_steps, weight}
-use Rattle.vt_model.specs.Histories.{IsRising, sends_of, IsLawful}
+use Rattle.vt_model.specs.promise.Simulation.{Simulation, Fired, Triple, after, simulation_of}
+use Rattle.vt_model.specs.promise.Sequential.{RunState, events_of, least_event, fired_after, with_event, after_steps, weight}
+use Rattle.vt_model.specs.promise.Histories.{IsLawful}
+use Rattle.vt_model.specs.inside.Histories.{IsRising, sends_of}
 use Rattle.vt_model.proofs.RunLemmas.{least-found, known_sent, lists_of, IsReached, reached, numbered-all, numbered-among, events_of-same, events_of-other, after-snoc}
 use Rattle.vt_model.proofs.EndLemmas.{least-none, sent-lighter, no_step}
 use Rattle.vt_model.proofs.LawLemmas.{after_state}
 use Rattle.vt_model.specs.declared.settings.Config.{Config}
-use Rattle.vt_model.specs.Handler.{Handlers}
-use Rattle.vt_model.specs.Settings.{end_of}
-use Rattle.vt_model.specs.Process.{triple_at}
-use Rattle.vt_seq.specs.Limits.{number_after, IsCounted, IsRefusal, IsRunStepRefusal}
-use Rattle.vt_seq.specs.StandsFor.{StandsFor, StandsAt, HasExecuted}
-use Rattle.vt_seq.specs.Queue.{IsWithinRun, all_inserted}
+use Rattle.vt_model.specs.promise.Handler.{Handlers}
+use Rattle.vt_model.specs.promise.Settings.{end_of}
+use Rattle.vt_model.specs.inside.Process.{triple_at}
+use Rattle.vt_seq.specs.promise.Limits.{number_after}
+use Rattle.vt_seq.specs.inside.Limits.{IsCounted, IsRefusal, IsRunStepRefusal}
+use Rattle.vt_seq.specs.inside.StandsFor.{StandsFor, StandsAt, HasExecuted}
+use Rattle.vt_seq.specs.inside.Queue.{IsWithinRun, all_inserted}
 use Rattle.vt_model.specs.declared.process.Process.{Process}
 use Rattle.vt_seq.proofs.InsertedLemmas.{all_inserted-among, among-all_inserted, all_inserted-rising, all_inserted-sum}
 

@@ -1,16 +1,16 @@
 //! How a process starts, and how it executes the first of the pending events.
 
 ghost use Rattle.std.specs.Prelude.{◌≡◌, ◌<◌, ◌≤◌, ◌++◌, length, drop, IfOk, IfErr};
-ghost use Rattle.vt_key.specs.Times.{TimeBefore};
+ghost use Rattle.vt_key.specs.promise.Times.{TimeBefore};
 ghost use Rattle.vt_key.specs.declared.fault.Fault.TheVariants.{Memory};
-ghost use Rattle.vt_key.specs.Lists.{Among};
+ghost use Rattle.vt_key.specs.promise.Lists.{Among};
 ghost use Rattle.vt_model.specs.declared.sending.Sent.{Sent};
-ghost use Rattle.vt_model.specs.Process.{triple_at, IsProcessStream};
-ghost use Rattle.vt_model.specs.Simulation.{simulation_of};
-ghost use Rattle.vt_model.specs.Settings.{end_of};
-ghost use Rattle.vt_seq.specs.Queue.{all_inserted, HaveNewKeys};
-ghost use Rattle.vt_seq.specs.Limits.{IsRefusal};
-ghost use Rattle.vt_seq.specs.StandsFor.{HasExecuted, HasStarted};
+ghost use Rattle.vt_model.specs.inside.Process.{triple_at, IsProcessStream};
+ghost use Rattle.vt_model.specs.promise.Simulation.{simulation_of};
+ghost use Rattle.vt_model.specs.promise.Settings.{end_of};
+ghost use Rattle.vt_seq.specs.inside.Queue.{all_inserted, HaveNewKeys};
+ghost use Rattle.vt_seq.specs.inside.Limits.{IsRefusal};
+ghost use Rattle.vt_seq.specs.inside.StandsFor.{HasExecuted, HasStarted};
 
 use crate::pending::PendingEvents;
 use vt_key::{Fault, MAX_COUNT, When};

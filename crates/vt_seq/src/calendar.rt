@@ -3,10 +3,10 @@
 ghost use Rattle.std.specs.Prelude.{◌≡◌, ◌+◌, ◌<◌, ◌≤◌, ◌∷◌, [], IfOk, IfErr, IfSome, IfNone, Err};
 ghost use Rattle.std.specs.List.Sorted.{IsPermutation};
 ghost use Rattle.vt_key.specs.declared.fault.Fault.TheVariants.{Memory, NotLawful};
-ghost use Rattle.vt_key.specs.Times.{ticks_of};
+ghost use Rattle.vt_key.specs.promise.Times.{ticks_of};
 ghost use Rattle.vt_seq.specs.declared.fit.TheConstants.{MOST_SCALE};
-ghost use Rattle.vt_seq.specs.Entries.{IsFalling, IsFalling-prop, IsLeastEntry};
-ghost use Rattle.vt_seq.specs.Days.{day_of, calendar_entries, AreDated, AreJustBefore, IsNear, NoneWithoutPresent};
+ghost use Rattle.vt_seq.specs.inside.Entries.{IsFalling, IsFalling-prop, IsLeastEntry};
+ghost use Rattle.vt_seq.specs.inside.Days.{day_of, calendar_entries, AreDated, AreJustBefore, IsNear, NoneWithoutPresent};
 
 use crate::days::Days;
 use crate::entry::Entry;

@@ -3,7 +3,7 @@
 ghost use Rattle.std.specs.Prelude.{◌≡◌, ◌+◌, ◌-◌, ◌<◌, ◌≤◌, ◌^◌, [], ◌∷◌, ◌++◌, if◌then◌else◌, is_ok, vec_len, IfOk, IfErr, IfSome, IfNone, IsTrue, Some, Err};
 ghost use Rattle.vt_key.specs.declared.fault.Fault.TheVariants.{Memory, NotLawful};
 ghost use Rattle.vt_seq.specs.declared.days.TheConstants.{DAYS};
-ghost use Rattle.vt_seq.specs.Days.{entries_of_days, IsPut, IsDayTaken};
+ghost use Rattle.vt_seq.specs.inside.Days.{entries_of_days, IsPut, IsDayTaken};
 
 use crate::entry::Entry;
 use std::alloc::Global;
@@ -33,7 +33,7 @@ impl<P: Copy> Model for Days<P> {
     ghost use Rattle.std.specs.Prelude.{◌≡◌, List, [], IsTrue, map, vec_len};
     ghost use Rattle.vt_seq.specs.declared.days.TheConstants.{DAYS};
     ghost use Rattle.vt_seq.specs.declared.entry.Entry.{Entry};
-    ghost use Rattle.vt_seq.specs.Days.{is_used, entries_of_days};
+    ghost use Rattle.vt_seq.specs.inside.Days.{is_used, entries_of_days};
 
     ghost Value = { List (List (Entry P)) };
 

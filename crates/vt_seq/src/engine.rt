@@ -4,14 +4,14 @@ ghost use Rattle.std.specs.Prelude.{◌≡◌, ℕ, suc, ◌<◌, ◌≤◌, ◌
 ghost use Rattle.std.specs.List.{range_with_len};
 ghost use Rattle.vt_key.specs.declared.fault.Fault.TheVariants.{Memory, NotLawful, Exhausted};
 ghost use Rattle.vt_key.specs.declared.limits.TheConstants.{MAX_COUNT};
-ghost use Rattle.vt_model.specs.Process.{IsProcessStream};
-ghost use Rattle.vt_model.specs.Simulation.{simulation_of, after};
-ghost use Rattle.vt_model.specs.Sequential.{after_steps, whole_run, events_of, weight};
-ghost use Rattle.vt_model.specs.Settings.{end_of};
-ghost use Rattle.vt_seq.specs.Given.{AddsStep};
-ghost use Rattle.vt_seq.specs.Limits.{IsRunStepRefusal};
-ghost use Rattle.vt_seq.specs.Queue.{IsWithinRun};
-ghost use Rattle.vt_seq.specs.StandsFor.{StandsAt};
+ghost use Rattle.vt_model.specs.inside.Process.{IsProcessStream};
+ghost use Rattle.vt_model.specs.promise.Simulation.{simulation_of, after};
+ghost use Rattle.vt_model.specs.promise.Sequential.{after_steps, whole_run, events_of, weight};
+ghost use Rattle.vt_model.specs.promise.Settings.{end_of};
+ghost use Rattle.vt_seq.specs.inside.Given.{AddsStep};
+ghost use Rattle.vt_seq.specs.inside.Limits.{IsRunStepRefusal};
+ghost use Rattle.vt_seq.specs.inside.Queue.{IsWithinRun};
+ghost use Rattle.vt_seq.specs.inside.StandsFor.{StandsAt};
 
 use crate::advancing::{advance, start_process};
 use crate::pending::PendingEvents;

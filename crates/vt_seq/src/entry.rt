@@ -4,7 +4,7 @@ ghost use Rattle.std.specs.Ordering.{as_partial_cmp};
 ghost use Rattle.std.specs.Cmp.{partial_order_from_own_ties};
 ghost use Rattle.std.proofs.Common.{rules};
 ghost use Rattle.std.specs.Cmp.Rules.{comparing};
-ghost use Rattle.vt_seq.specs.Entries.{entry_cmp, entry_same};
+ghost use Rattle.vt_seq.specs.inside.Entries.{entry_cmp, entry_same};
 
 use std::cmp::Ordering;
 use vt_model::Sent;

@@ -2,16 +2,16 @@
 
 ghost use Rattle.std.specs.Prelude.{◌≡◌, ℕ, ◌+◌, ◌<◌, ◌≤◌, ◌⊎◌, [], length, IfOk, IfErr, IfSome, IfNone, Err, slice_get};
 ghost use Rattle.std.specs.Option.{option_map};
-ghost use Rattle.vt_key.specs.Times.{ticks_of};
+ghost use Rattle.vt_key.specs.promise.Times.{ticks_of};
 ghost use Rattle.vt_key.specs.declared.fault.Fault.TheVariants.{Memory, NotLawful, Exhausted};
-ghost use Rattle.vt_key.specs.Lists.{Among};
+ghost use Rattle.vt_key.specs.promise.Lists.{Among};
 ghost use Rattle.vt_model.specs.declared.sending.Sent.{Sent};
-ghost use Rattle.vt_model.specs.Simulation.{simulation_of, after};
-ghost use Rattle.vt_model.specs.Sequential.{after_steps, events_of, seq_finals};
-ghost use Rattle.vt_seq.specs.Given.{AddsSteps, AddsRest};
-ghost use Rattle.vt_seq.specs.Limits.{IsCountedWhole, IsRunStepRefusal};
-ghost use Rattle.vt_seq.specs.Standing.{IsAt, IsOnWay};
-ghost use Rattle.vt_seq.specs.Steps.{IsStep};
+ghost use Rattle.vt_model.specs.promise.Simulation.{simulation_of, after};
+ghost use Rattle.vt_model.specs.promise.Sequential.{after_steps, events_of, seq_finals};
+ghost use Rattle.vt_seq.specs.inside.Given.{AddsSteps, AddsRest};
+ghost use Rattle.vt_seq.specs.inside.Limits.{IsCountedWhole, IsRunStepRefusal};
+ghost use Rattle.vt_seq.specs.inside.Standing.{IsAt, IsOnWay};
+ghost use Rattle.vt_seq.specs.inside.Steps.{IsStep};
 
 use crate::engine::Engine;
 use std::alloc::Global;
@@ -33,8 +33,8 @@ pub struct Execution<'m, M: EventModel> {
 
 impl<'m, M: EventModel> Model for Execution<'m, M> {
     ghost use Rattle.std.specs.Prelude.{map};
-    ghost use Rattle.vt_model.specs.Process.{triple_at};
-    ghost use Rattle.vt_seq.specs.Standing.{Standing};
+    ghost use Rattle.vt_model.specs.inside.Process.{triple_at};
+    ghost use Rattle.vt_seq.specs.inside.Standing.{Standing};
 
     ghost Value = { Standing M M.State M.Payload };
 

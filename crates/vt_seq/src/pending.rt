@@ -3,10 +3,10 @@
 ghost use Rattle.std.specs.Prelude.{◌≡◌, ◌+◌, ◌<◌, ◌≤◌, ◌++◌, [], false, length, drop, slice_get, slice_index_or, IfOk, IfErr, IsTrue, Some};
 ghost use Rattle.std.specs.BinaryHeap.{heap_items, heap_len, heap_capacity};
 ghost use Rattle.vt_key.specs.declared.fault.Fault.TheVariants.{Memory};
-ghost use Rattle.vt_key.specs.Times.{ticks_of};
-ghost use Rattle.vt_seq.specs.Queue.{all_inserted, HaveNewKeys};
-ghost use Rattle.vt_seq.specs.Entries.{in_order, IsLeastEntry, IsQueue};
-ghost use Rattle.vt_seq.specs.Days.{day_of, calendar_entries, NoneWithoutPresent};
+ghost use Rattle.vt_key.specs.promise.Times.{ticks_of};
+ghost use Rattle.vt_seq.specs.inside.Queue.{all_inserted, HaveNewKeys};
+ghost use Rattle.vt_seq.specs.inside.Entries.{in_order, IsLeastEntry, IsQueue};
+ghost use Rattle.vt_seq.specs.inside.Days.{day_of, calendar_entries, NoneWithoutPresent};
 
 use crate::calendar::Calendar;
 use crate::entry::Entry;
@@ -31,8 +31,8 @@ impl<P: Copy> Model for PendingEvents<P> {
     ghost use Rattle.std.specs.Prelude.{List, ◌++◌};
     ghost use Rattle.std.specs.BinaryHeap.{heap_items};
     ghost use Rattle.vt_model.specs.declared.sending.Sent.{Sent};
-    ghost use Rattle.vt_seq.specs.Entries.{in_order, IsQueue};
-    ghost use Rattle.vt_seq.specs.Days.{calendar_entries, NoneWithoutPresent};
+    ghost use Rattle.vt_seq.specs.inside.Entries.{in_order, IsQueue};
+    ghost use Rattle.vt_seq.specs.inside.Days.{calendar_entries, NoneWithoutPresent};
 
     ghost Value = { List (Sent P) };
 

@@ -1,13 +1,13 @@
 //! The sequential run of a model, with its records.
 
 ghost use Rattle.std.specs.Prelude.{◌≡◌, ℕ, suc, ◌+◌, ◌<◌, ◌≤◌, ◌↔◌, ◌⊎◌, [], length, IfOk, IfErr, IsTrue, IfSome, IfNone, Err, filter, false};
-ghost use Rattle.vt_key.specs.Times.{time_before};
-ghost use Rattle.vt_model.specs.Simulation.{simulation_of, after};
-ghost use Rattle.vt_model.specs.Sequential.{after_steps, events_of, rows_after, rows_before, records_of, seq_records, seq_finals};
-ghost use Rattle.vt_model.specs.Rows.{record_time};
-ghost use Rattle.vt_model.specs.Settings.{end_of};
-ghost use Rattle.vt_seq.specs.Limits.{IsCounted, IsCountedWhole, IsRunStepRefusal};
-ghost use Rattle.vt_seq.specs.Progress.{IsAfter, IsAfterSomeSteps};
+ghost use Rattle.vt_key.specs.promise.Times.{time_before};
+ghost use Rattle.vt_model.specs.promise.Simulation.{simulation_of, after};
+ghost use Rattle.vt_model.specs.promise.Sequential.{after_steps, events_of, rows_after, rows_before, records_of, seq_records, seq_finals};
+ghost use Rattle.vt_model.specs.promise.Rows.{record_time};
+ghost use Rattle.vt_model.specs.promise.Settings.{end_of};
+ghost use Rattle.vt_seq.specs.inside.Limits.{IsCounted, IsCountedWhole, IsRunStepRefusal};
+ghost use Rattle.vt_seq.specs.inside.Progress.{IsAfter, IsAfterSomeSteps};
 
 use crate::execution::Execution;
 use std::alloc::Global;
@@ -27,7 +27,7 @@ pub struct Sequential<'m, M: EventModel> {
 }
 
 impl<'m, M: EventModel> Model for Sequential<'m, M> {
-    ghost use Rattle.vt_seq.specs.Progress.{Progress, IsAfterSomeSteps, with_records};
+    ghost use Rattle.vt_seq.specs.inside.Progress.{Progress, IsAfterSomeSteps, with_records};
 
     ghost Value = { Progress M M.State M.Payload };
 

@@ -2,21 +2,21 @@
 use Rattle.std.proofs.Common.{◌≡◌, ◌∙◌, ◌⊎◌, inl, inr, true, false, IfSome, ℕ, zero, suc, ◌/◌, ◌<◌, ◌≤◌, List, [], ◌∷◌, drop, length, map, Some, None, slice_get, refl, sym, ap, subst, arith}
 use Rattle.std.specs.List.{remove}
 use Rattle.std.proofs.lemmas.Option.{get_or_from_slice_get, slice_get_within}
-use Rattle.vt_key.specs.Queues.{letter_rank}
+use Rattle.vt_key.specs.promise.Queues.{letter_rank}
 use Rattle.vt_key.specs.declared.letter.Letter.{Letter}
 use Rattle.vt_key.specs.declared.letter.Mail.{Mail}
 use Rattle.vt_key.specs.declared.letter.Sign.TheVariants.{Plus}
-use Rattle.vt_model.specs.Handler.{Handlers}
+use Rattle.vt_model.specs.promise.Handler.{Handlers}
 use Rattle.vt_steps.proofs.lists.Places.{get-within}
-use Rattle.vt_kernel.specs.Held.{HeldWorker, AllOwnMail, IsOwnMail}
-use Rattle.vt_pool.specs.Inside.{IsHeard, IsStockInside, IsWorkersLetter}
-use Rattle.vt_pool.specs.Pool.{MayCome, holds_stamp, with_letter}
-use Rattle.vt_pool.specs.Share.{HeldPool, HeldShare, PoolLeadsTo, seen, with_pool}
-use Rattle.vt_pool.specs.Steps.{LeadsTo}
+use Rattle.vt_kernel.specs.inside.Held.{HeldWorker, AllOwnMail, IsOwnMail}
+use Rattle.vt_pool.specs.inside.Inside.{IsHeard, IsStockInside, IsWorkersLetter}
+use Rattle.vt_pool.specs.inside.Pool.{MayCome, holds_stamp, with_letter}
+use Rattle.vt_pool.specs.inside.Share.{HeldPool, HeldShare, PoolLeadsTo, seen, with_pool}
+use Rattle.vt_pool.specs.inside.Steps.{LeadsTo}
 use Rattle.vt_pool.proofs.LeadLemmas.{leads-nothing, leads-both}
 use Rattle.vt_pool.proofs.ReceiveLemmas.{number-of, place-there}
 use Rattle.vt_pool.proofs.ShareLemmas.{accept-leads}
-use Rattle.vt_share.specs.Calls.{AcceptsFirst, IsHeldMail}
+use Rattle.vt_share.specs.inside.Calls.{AcceptsFirst, IsHeldMail}
 use Rattle.vt_share.proofs.LetterLemmas.{held-somewhere}
 
 -- what stands behind an item

@@ -1,11 +1,11 @@
 -- Execute of the least pending message, as contracts of a worker say it.
 use Rattle.std.proofs.Common.{◌<◌, refl}
 use Rattle.vt_key.specs.declared.fault.Fault.{Fault}
-use Rattle.vt_model.specs.Handler.{Handlers}
-use Rattle.vt_pool.specs.Executing.{HasExecuted, IsNotExecuted}
-use Rattle.vt_pool.specs.Inside.{IsStockInside}
-use Rattle.vt_pool.specs.Share.{HeldPool, HeldShare, seen, with_pool}
-use Rattle.vt_share.specs.Calls.{ExecutesNext, IsNextRefusal}
+use Rattle.vt_model.specs.promise.Handler.{Handlers}
+use Rattle.vt_pool.specs.inside.Executing.{HasExecuted, IsNotExecuted}
+use Rattle.vt_pool.specs.inside.Inside.{IsStockInside}
+use Rattle.vt_pool.specs.inside.Share.{HeldPool, HeldShare, seen, with_pool}
+use Rattle.vt_share.specs.inside.Calls.{ExecutesNext, IsNextRefusal}
 use Rattle.vt_share.proofs.LetterLemmas.{first-least}
 
 module _ {S P K : Type 0} (handlers : Handlers S P K) (rest : HeldShare S P K) (old : HeldPool S P K) where

@@ -2,10 +2,12 @@
 use Rattle.std.proofs.Common.{◌≡◌, ◌∙◌, inl, inr, ℕ, ◌+◌, ◌/◌, ◌<◌, Bool, true, false, ◌||◌, List, [], ◌∷◌, ◌++◌, refl, sym, ap, subst, arith}
 use Rattle.std.specs.List.{filter, flat_map, list_any}
 use Rattle.std.proofs.lemmas.Bool.{cases_Bool, eq-eqb}
-use Rattle.vt_key.specs.Times.{Time, TimeAtMost, earlier}
-use Rattle.vt_key.specs.Lists.{Among}
-use Rattle.vt_key.specs.Order.{RankBefore, rank_before, stamp_same}
-use Rattle.vt_key.specs.Queues.{IsRising, has_stamp, letter_rank}
+use Rattle.vt_key.specs.promise.Times.{Time, TimeAtMost, earlier}
+use Rattle.vt_key.specs.promise.Lists.{Among}
+use Rattle.vt_key.specs.promise.Order.{rank_before, stamp_same}
+use Rattle.vt_key.specs.inside.Order.{RankBefore}
+use Rattle.vt_key.specs.promise.Queues.{has_stamp, letter_rank}
+use Rattle.vt_key.specs.inside.Queues.{IsRising}
 use Rattle.vt_key.specs.declared.order.Rank.{Rank}
 use Rattle.vt_key.proofs.OrderLemmas.{rank-irreflexive, rank-transitive, rank_before-true}
 use Rattle.vt_key.specs.declared.order.Stamp.{Stamp}
@@ -14,20 +16,20 @@ use Rattle.vt_key.specs.declared.letter.Sign.{Sign}
 use Rattle.vt_key.specs.declared.letter.Sign.TheVariants.{Plus, Minus}
 use Rattle.vt_key.proofs.ListLemmas.{among-left, among-right, among-append, among-map, among-flat_map, flat_map-among, among-filter, filter-among, get-among, every-among}
 use Rattle.vt_model.specs.declared.settings.Config.{Config}
-use Rattle.vt_model.specs.Simulation.{Triple}
-use Rattle.vt_steps.specs.Letters.{letter_time, least_time}
+use Rattle.vt_model.specs.promise.Simulation.{Triple}
+use Rattle.vt_steps.specs.promise.Letters.{letter_time, least_time}
 use Rattle.vt_steps.proofs.TimeLemmas.{least_time-append, least_time-low, at_most_both, same_times}
 use Rattle.vt_steps.proofs.lists.Places.{get-within}
 use Rattle.vt_past.specs.declared.event.PastEvent.{PastEvent}
-use Rattle.vt_lp.specs.Held.{HeldProcess}
-use Rattle.vt_kernel.specs.Held.{HeldWorker}
-use Rattle.vt_pool.specs.View.{Placed, Stock, number_at, is_at, is_to, letters_to, past_at, process_in, processes_from, processes_in}
-use Rattle.vt_pool.specs.Inside.{IsWorkersEvent, IsWorkersLetter, IsStockInside, placed_rank}
-use Rattle.vt_pool.specs.Pool.{holds_stamp}
+use Rattle.vt_lp.specs.inside.Held.{HeldProcess}
+use Rattle.vt_kernel.specs.inside.Held.{HeldWorker}
+use Rattle.vt_pool.specs.inside.View.{Placed, Stock, number_at, is_at, is_to, letters_to, past_at, process_in, processes_from, processes_in}
+use Rattle.vt_pool.specs.inside.Inside.{IsWorkersEvent, IsWorkersLetter, IsStockInside, placed_rank}
+use Rattle.vt_pool.specs.inside.Pool.{holds_stamp}
 use Rattle.vt_pool.proofs.GuardLemmas.{any-among}
 use Rattle.vt_pool.proofs.ViewLemmas.{get-in, number-own, number-place, to-own}
 use Rattle.vt_pool.proofs.ReceiveLemmas.{number-of, place-there}
-use Rattle.vt_share.specs.Calls.{has_stamped, IsLeastPending}
+use Rattle.vt_share.specs.inside.Calls.{has_stamped, IsLeastPending}
 
 -- ---- the least time of letters
 

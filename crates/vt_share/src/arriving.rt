@@ -1,18 +1,18 @@
 //! Mail that arrives.
 
 ghost use Rattle.std.specs.Prelude.{◌≡◌, ◌≤◌, ◌⊎◌, [], true, drop, length, map, slice_get, vec_len, IfOk, IfErr, IfSome};
-ghost use Rattle.vt_key.specs.Queues.{letter_rank};
+ghost use Rattle.vt_key.specs.promise.Queues.{letter_rank};
 ghost use Rattle.vt_key.specs.declared.fault.Fault.TheVariants.{Memory, NotLawful};
-ghost use Rattle.vt_model.specs.Handler.{Handlers};
-ghost use Rattle.vt_steps.specs.Letters.{is_empty};
-ghost use Rattle.vt_steps.specs.World.{Part};
-ghost use Rattle.vt_steps.specs.PartSteps.{part_after_fetch};
-ghost use Rattle.vt_kernel.specs.Held.{StandsFor, AllOwnMail, AreCounted};
-ghost use Rattle.vt_kernel.specs.Steps.{held_after_fetch, IsTakeRefusal};
-ghost use Rattle.vt_pool.specs.Inside.{AreSettled};
-ghost use Rattle.vt_pool.specs.Pool.{holds_stamp};
-ghost use Rattle.vt_pool.specs.Steps.{LeadsTo};
-ghost use Rattle.vt_share.specs.Calls.{AcceptsFirst, IsHeldMail};
+ghost use Rattle.vt_model.specs.promise.Handler.{Handlers};
+ghost use Rattle.vt_steps.specs.promise.Letters.{is_empty};
+ghost use Rattle.vt_steps.specs.promise.World.{Part};
+ghost use Rattle.vt_steps.specs.promise.PartSteps.{part_after_fetch};
+ghost use Rattle.vt_kernel.specs.inside.Held.{StandsFor, AllOwnMail, AreCounted};
+ghost use Rattle.vt_kernel.specs.inside.Steps.{held_after_fetch, IsTakeRefusal};
+ghost use Rattle.vt_pool.specs.inside.Inside.{AreSettled};
+ghost use Rattle.vt_pool.specs.inside.Pool.{holds_stamp};
+ghost use Rattle.vt_pool.specs.inside.Steps.{LeadsTo};
+ghost use Rattle.vt_share.specs.inside.Calls.{AcceptsFirst, IsHeldMail};
 
 use crate::share::Share;
 use std::mem;

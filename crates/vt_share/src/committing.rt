@@ -3,13 +3,13 @@
 ghost use Rattle.std.specs.Prelude.{◌≡◌, List, IfOk, IfErr};
 ghost use Rattle.vt_key.specs.declared.fault.Fault.TheVariants.{Memory};
 ghost use Rattle.vt_model.specs.declared.rows.Row.{Row as RowValue};
-ghost use Rattle.vt_model.specs.Handler.{Handlers};
-ghost use Rattle.vt_model.specs.Simulation.{simulation_of};
-ghost use Rattle.vt_steps.specs.World.{Part};
-ghost use Rattle.vt_steps.specs.PartSteps.{part_after_commit, rows_of_commit};
-ghost use Rattle.vt_steps.specs.Finals.{part_values};
-ghost use Rattle.vt_kernel.specs.Held.{AreProcesses, StandsFor};
-ghost use Rattle.vt_pool.specs.Forgotten.{rows_of_held};
+ghost use Rattle.vt_model.specs.promise.Handler.{Handlers};
+ghost use Rattle.vt_model.specs.promise.Simulation.{simulation_of};
+ghost use Rattle.vt_steps.specs.promise.World.{Part};
+ghost use Rattle.vt_steps.specs.promise.PartSteps.{part_after_commit, rows_of_commit};
+ghost use Rattle.vt_steps.specs.inside.Finals.{part_values};
+ghost use Rattle.vt_kernel.specs.inside.Held.{AreProcesses, StandsFor};
+ghost use Rattle.vt_pool.specs.inside.Forgotten.{rows_of_held};
 
 use crate::share::Share;
 use std::alloc::Global;

@@ -2,10 +2,10 @@
 
 ghost use Rattle.std.specs.Prelude.{◌≡◌, ◌⊎◌, true, false, IfOk, IfErr};
 ghost use Rattle.vt_key.specs.declared.fault.Fault.TheVariants.{Memory, Exhausted};
-ghost use Rattle.vt_steps.specs.World.{Part};
-ghost use Rattle.vt_kernel.specs.Held.{StandsFor};
-ghost use Rattle.vt_pool.specs.Steps.{LeadsTo};
-ghost use Rattle.vt_share.specs.Calls.{HasNothingPending, ExecutesNext, IsNextRefusal};
+ghost use Rattle.vt_steps.specs.promise.World.{Part};
+ghost use Rattle.vt_kernel.specs.inside.Held.{StandsFor};
+ghost use Rattle.vt_pool.specs.inside.Steps.{LeadsTo};
+ghost use Rattle.vt_share.specs.inside.Calls.{HasNothingPending, ExecutesNext, IsNextRefusal};
 
 use crate::share::Share;
 use vt_key::Fault;

@@ -2,16 +2,16 @@
 
 ghost use Rattle.std.specs.Prelude.{◌≡◌, ℕ, ◌<◌, ◌≤◌, ◌⊎◌, ◌++◌, true, false, map, IfOk, IfErr, IfSome, IfNone};
 ghost use Rattle.vt_key.specs.declared.fault.Fault.TheVariants.{Memory, NotLawful, Exhausted};
-ghost use Rattle.vt_model.specs.Handler.{Handlers};
-ghost use Rattle.vt_model.specs.Simulation.{simulation_of};
-ghost use Rattle.vt_steps.specs.World.{Part};
-ghost use Rattle.vt_steps.specs.PartSteps.{part_after_send, mail_of_send};
-ghost use Rattle.vt_steps.specs.CellSteps.{may_send};
+ghost use Rattle.vt_model.specs.promise.Handler.{Handlers};
+ghost use Rattle.vt_model.specs.promise.Simulation.{simulation_of};
+ghost use Rattle.vt_steps.specs.promise.World.{Part};
+ghost use Rattle.vt_steps.specs.promise.PartSteps.{part_after_send, mail_of_send};
+ghost use Rattle.vt_steps.specs.promise.CellSteps.{may_send};
 ghost use Rattle.vt_steps.specs.declared.step.Step.TheVariants as step;
-ghost use Rattle.vt_kernel.specs.Held.{StandsFor, AllOwnMail};
-ghost use Rattle.vt_kernel.specs.Guards.{mailed, IsSendRefusal};
-ghost use Rattle.vt_kernel.specs.Steps.{outbox_for, held_after_send};
-ghost use Rattle.vt_kernel.specs.Refusals.{PassesIn};
+ghost use Rattle.vt_kernel.specs.inside.Held.{StandsFor, AllOwnMail};
+ghost use Rattle.vt_kernel.specs.inside.Guards.{mailed, IsSendRefusal};
+ghost use Rattle.vt_kernel.specs.inside.Steps.{outbox_for, held_after_send};
+ghost use Rattle.vt_kernel.specs.promise.Refusals.{PassesIn};
 
 use crate::share::Share;
 use vt_key::{Fault, Mail};

@@ -2,9 +2,9 @@
 
 ghost use Rattle.std.specs.Prelude.{◌≡◌, ◌<◌, IfOk, IfErr};
 ghost use Rattle.vt_key.specs.declared.fault.Fault.TheVariants.{Memory};
-ghost use Rattle.vt_model.specs.Simulation.{simulation_of};
-ghost use Rattle.vt_steps.specs.World.{opening_part};
-ghost use Rattle.vt_pool.specs.Steps.{IsLedFrom};
+ghost use Rattle.vt_model.specs.promise.Simulation.{simulation_of};
+ghost use Rattle.vt_steps.specs.promise.World.{opening_part};
+ghost use Rattle.vt_pool.specs.inside.Steps.{IsLedFrom};
 
 use crate::share::Share;
 use std::alloc::Global;

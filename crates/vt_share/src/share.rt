@@ -1,7 +1,7 @@
 //! The worker.
 
 ghost use Rattle.std.specs.Prelude.{◌≡◌, ◌%◌, ◌^◌, length};
-ghost use Rattle.vt_kernel.specs.Held.{AreCounted};
+ghost use Rattle.vt_kernel.specs.inside.Held.{AreCounted};
 
 use std::marker::Model;
 use vt_kernel::Counts;
@@ -26,9 +26,9 @@ pub struct Share<M: EventModel> {
 }
 
 impl<M: EventModel> Model for Share<M> {
-    ghost use Rattle.vt_kernel.specs.Held.{HeldWorker};
-    ghost use Rattle.vt_pool.specs.Share.{seen};
-    ghost use Rattle.vt_share.specs.Held.{share_of, IsShareInside};
+    ghost use Rattle.vt_kernel.specs.inside.Held.{HeldWorker};
+    ghost use Rattle.vt_pool.specs.inside.Share.{seen};
+    ghost use Rattle.vt_share.specs.inside.Held.{share_of, IsShareInside};
 
     ghost Value = { HeldWorker M.State M.Payload M.Kept };
 

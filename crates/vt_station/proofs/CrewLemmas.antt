@@ -7,24 +7,25 @@ use Rattle.std.proofs.lemmas.Option.{slice_get_within, get_or_from_slice_get}
 use Rattle.std.specs.List.{AllByRecursion}
 use Rattle.std.specs.Option.{unwrap_or}
 use Rattle.std.specs.Prelude.{◌≡◌, ◌<◌, ◌⊎◌, IfOk, IfErr, MatchResult}
-use Rattle.vt_key.specs.Times.{Time, opening_time, time_before}
+use Rattle.vt_key.specs.promise.Times.{Time, opening_time, time_before}
 use Rattle.vt_key.specs.declared.fault.Fault.{Fault}
 use Rattle.vt_model.specs.declared.rows.Record.{Record}
 use Rattle.vt_model.specs.declared.rows.Row.{Row}
-use Rattle.vt_model.specs.Simulation.{Simulation}
-use Rattle.vt_model.specs.Sequential.{rows_before, records_of, rows_after, whole_run, seq_records}
-use Rattle.vt_steps.specs.Marked.{answered, has_closed}
+use Rattle.vt_model.specs.promise.Simulation.{Simulation}
+use Rattle.vt_model.specs.promise.Sequential.{rows_before, records_of, rows_after, whole_run, seq_records}
+use Rattle.vt_steps.specs.inside.Marked.{answered, has_closed}
 use Rattle.vt_places.specs.declared.view.View.{View}
 use Rattle.vt_station.specs.declared.crew.Stopped.{Stopped}
 use Rattle.vt_station.specs.declared.crew.Finished.{Finished}
 use Rattle.vt_station.specs.declared.driver.Outcome.{Outcome}
 use Rattle.vt_station.specs.declared.driver.Outcome.TheVariants.{Closed}
-use Rattle.vt_places.specs.Calls.{AreRecordsShown}
+use Rattle.vt_places.specs.inside.Calls.{AreRecordsShown}
 use Rattle.vt_key.specs.declared.fault.Fault.TheVariants.{Busy, TurnsSpent}
 use Rattle.vt_model.specs.declared.settings.Config.{Config}
 use Rattle.vt_station.specs.declared.pieces.Standing.TheVariants.{GoesOn}
-use Rattle.vt_station.specs.Crew.{AtJob, IsLeftBy, IsStop, IsToldBy, IsClosedAt, NoneClosed, AreUnbegun, fault_or, first_fault, StandsBy}
-use Rattle.vt_station.specs.Turns.{IsLasting}
+use Rattle.vt_station.specs.promise.Crew.{IsStop}
+use Rattle.vt_station.specs.inside.Crew.{AtJob, IsLeftBy, IsToldBy, IsClosedAt, NoneClosed, AreUnbegun, fault_or, first_fault, StandsBy}
+use Rattle.vt_station.specs.promise.Turns.{IsLasting}
 
 -- the worker closed the book, and its place knows it
 pub closed-left : {P : Type 0} (view : View P) (outcome : Option Outcome) → IsLeftBy view outcome → outcome ≡ Some Closed → has_closed (map answered view.mine) ≡ true

@@ -8,26 +8,26 @@ use Rattle.std.specs.List.{remove}
 use Rattle.std.specs.Prelude.{IfOk, IfSome, MatchResult}
 use Rattle.atomic_table.specs.Seated.{TableId}
 use Rattle.vt_model.specs.declared.settings.Config.{Config}
-use Rattle.vt_model.specs.Handler.{Handlers}
-use Rattle.vt_key.specs.Times.{Time, opening_time}
+use Rattle.vt_model.specs.promise.Handler.{Handlers}
+use Rattle.vt_key.specs.promise.Times.{Time, opening_time}
 use Rattle.vt_key.specs.declared.fault.Fault.{Fault}
 use Rattle.vt_key.specs.declared.fault.Fault.TheVariants.{Memory}
 use Rattle.vt_model.specs.declared.rows.Record.{Record}
-use Rattle.vt_model.specs.Simulation.{Simulation, simulation_of}
-use Rattle.vt_model.specs.Sequential.{seq_records}
-use Rattle.vt_model.specs.Settings.{end_of}
-use Rattle.vt_steps.specs.Marked.{Made, answered, has_closed}
+use Rattle.vt_model.specs.promise.Simulation.{Simulation, simulation_of}
+use Rattle.vt_model.specs.promise.Sequential.{seq_records}
+use Rattle.vt_model.specs.promise.Settings.{end_of}
+use Rattle.vt_steps.specs.inside.Marked.{Made, answered, has_closed}
 use Rattle.vt_places.specs.declared.place.Place.{Place}
-use Rattle.vt_places.specs.Making.{IsNew, AreNew}
+use Rattle.vt_places.specs.inside.Making.{IsNew, AreNew}
 use Rattle.vt_places.specs.declared.view.View.{View}
-use Rattle.vt_places.specs.Told.{place_table, place_view}
-use Rattle.vt_places.specs.Calls.{AreHandedOut, Unvisited, Stays}
-use Rattle.vt_places.specs.AtWork.{AtWork, IsAtSameStation}
+use Rattle.vt_places.specs.inside.Told.{place_table, place_view}
+use Rattle.vt_places.specs.inside.Calls.{AreHandedOut, Unvisited, Stays}
+use Rattle.vt_places.specs.inside.AtWork.{AtWork, IsAtSameStation}
 use Rattle.vt_station.specs.declared.driver.Outcome.{Outcome}
 use Rattle.vt_station.specs.declared.driver.Outcome.TheVariants.{Spent, Closed, Ended, Refused}
 use Rattle.vt_station.specs.declared.job.Post.{Post}
 use Rattle.vt_station.specs.declared.job.Post.TheVariants.{New, Begun, Left}
-use Rattle.vt_station.specs.Crew.{AtJob, StandsThere, CannotBegin, StandsFrom, view_of, IsLeftBy, IsJob, IsSameJob, AllAt, AreInOrder, AreUnbegun, IsPieceOf}
+use Rattle.vt_station.specs.inside.Crew.{AtJob, StandsThere, CannotBegin, StandsFrom, view_of, IsLeftBy, IsJob, IsSameJob, AllAt, AreInOrder, AreUnbegun, IsPieceOf}
 use Rattle.vt_station.proofs.CrewLemmas.{closed-left, none-at-first}
 
 -- the first of some places, and the places behind it

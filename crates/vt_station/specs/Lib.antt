@@ -1,2 +1,2 @@
-pub mod Turns
-pub mod Crew
+pub mod promise
+pub mod inside

@@ -1,16 +1,17 @@
 //! A thread for each worker, and what comes of their work.
 
 ghost use Rattle.std.specs.Prelude.{◌≡◌, ◌<◌, ◌⊎◌, [], true, false, length, None, Some, IfOk, IfErr, IfSome, IfNone, IsOkAnd, MatchResult, Ok, Err, ◌*◌, ◌+◌};
-ghost use Rattle.vt_key.specs.Times.{Time as TimeValue};
-ghost use Rattle.vt_model.specs.Simulation.{simulation_of};
-ghost use Rattle.vt_model.specs.Sequential.{seq_records, seq_finals};
-ghost use Rattle.vt_model.specs.Settings.{end_of};
+ghost use Rattle.vt_key.specs.promise.Times.{Time as TimeValue};
+ghost use Rattle.vt_model.specs.promise.Simulation.{simulation_of};
+ghost use Rattle.vt_model.specs.promise.Sequential.{seq_records, seq_finals};
+ghost use Rattle.vt_model.specs.promise.Settings.{end_of};
 ghost use Rattle.vt_key.specs.declared.fault.Fault.TheVariants.{Memory, Busy, TurnsSpent};
-ghost use Rattle.vt_steps.specs.Finals.{final_value};
+ghost use Rattle.vt_steps.specs.inside.Finals.{final_value};
 ghost use Rattle.vt_station.specs.declared.driver.Outcome.TheVariants.{Closed};
 ghost use Rattle.vt_station.specs.declared.driver.Wanted.TheVariants.{Records};
-ghost use Rattle.vt_station.specs.Turns.{IsLasting};
-ghost use Rattle.vt_station.specs.Crew.{IsSameJob, IsSameWork, AllAt, AreInOrder, IsClosedAt, NoneClosed, NoneClosedBefore, first_fault, IsToldBy, IsStop, wanted_finals};
+ghost use Rattle.vt_station.specs.promise.Turns.{IsLasting};
+ghost use Rattle.vt_station.specs.promise.Crew.{IsStop};
+ghost use Rattle.vt_station.specs.inside.Crew.{IsSameJob, IsSameWork, AllAt, AreInOrder, IsClosedAt, NoneClosed, NoneClosedBefore, first_fault, IsToldBy, wanted_finals};
 
 use crate::bell::Bells;
 use crate::driver::{Outcome, Wanted};

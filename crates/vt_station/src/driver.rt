@@ -2,13 +2,14 @@
 
 ghost use Rattle.std.specs.Prelude.{◌≡◌, Err, IfErr, IfSome, MatchResult};
 ghost use Rattle.vt_key.specs.declared.fault.Fault.TheVariants.{NotLawful};
-ghost use Rattle.vt_key.specs.Times.{Time as TimeValue};
-ghost use Rattle.vt_model.specs.Simulation.{simulation_of};
-ghost use Rattle.vt_steps.specs.Finals.{worker_finals};
-ghost use Rattle.vt_places.specs.Told.{station_model, place_table, place_view};
-ghost use Rattle.vt_places.specs.Calls.{AreHandedOut, Unvisited, Stays, IsHandOutRefusal};
-ghost use Rattle.vt_places.specs.AtWork.{IsAtWork, IsAtSamePlace, IsAtSameStation, at_work};
-ghost use Rattle.vt_station.specs.Turns.{IsLasting, IsPassedOver, IsPartOfTurn, HasEnded};
+ghost use Rattle.vt_key.specs.promise.Times.{Time as TimeValue};
+ghost use Rattle.vt_model.specs.promise.Simulation.{simulation_of};
+ghost use Rattle.vt_steps.specs.inside.Finals.{worker_finals};
+ghost use Rattle.vt_places.specs.inside.Told.{station_model, place_table, place_view};
+ghost use Rattle.vt_places.specs.inside.Calls.{AreHandedOut, Unvisited, Stays, IsHandOutRefusal};
+ghost use Rattle.vt_places.specs.inside.AtWork.{IsAtWork, IsAtSamePlace, IsAtSameStation, at_work};
+ghost use Rattle.vt_station.specs.promise.Turns.{IsLasting};
+ghost use Rattle.vt_station.specs.inside.Turns.{IsPassedOver, IsPartOfTurn, HasEnded};
 
 use crate::bell::Bells;
 use crate::gate::Gate;
@@ -104,8 +105,8 @@ pub(crate) struct Driver<'a, M: EventModel> {
 }
 
 impl<'a, M: EventModel> Model for Driver<'a, M> {
-    ghost use Rattle.vt_places.specs.Told.{station_model, place_table};
-    ghost use Rattle.vt_places.specs.AtWork.{AtWork, IsAtWork, at_work};
+    ghost use Rattle.vt_places.specs.inside.Told.{station_model, place_table};
+    ghost use Rattle.vt_places.specs.inside.AtWork.{AtWork, IsAtWork, at_work};
 
     ghost Value = { AtWork M M.State M.Payload M.Kept };
 

@@ -1,18 +1,18 @@
 //! The work of one worker, in one piece or in several.
 
 ghost use Rattle.std.specs.Prelude.{◌≡◌, ◌<◌, ◌⊎◌, [], None, Some, Ok, Err, length, IfOk, IfErr, IfSome, MatchResult, ◌*◌, ◌+◌};
-ghost use Rattle.vt_key.specs.Times.{Time as TimeValue};
+ghost use Rattle.vt_key.specs.promise.Times.{Time as TimeValue};
 ghost use Rattle.vt_key.specs.declared.fault.Fault.TheVariants.{Memory, Busy, NotLawful};
-ghost use Rattle.vt_model.specs.Simulation.{simulation_of};
-ghost use Rattle.vt_model.specs.Sequential.{seq_records};
-ghost use Rattle.vt_model.specs.Settings.{end_of};
-ghost use Rattle.vt_steps.specs.Finals.{final_value};
+ghost use Rattle.vt_model.specs.promise.Simulation.{simulation_of};
+ghost use Rattle.vt_model.specs.promise.Sequential.{seq_records};
+ghost use Rattle.vt_model.specs.promise.Settings.{end_of};
+ghost use Rattle.vt_steps.specs.inside.Finals.{final_value};
 ghost use Rattle.vt_station.specs.declared.driver.Outcome.TheVariants.{Spent, Closed};
 ghost use Rattle.vt_station.specs.declared.job.Post.TheVariants.{Begun};
-ghost use Rattle.vt_places.specs.Told.{station_model, station_config, station_table, place_table, place_view};
-ghost use Rattle.vt_places.specs.Making.{IsNew, AreNew};
-ghost use Rattle.vt_places.specs.Calls.{IsHandOutRefusal};
-ghost use Rattle.vt_station.specs.Crew.{IsSameJob, AllAt, AreInOrder, AreUnbegun, CannotBegin, StandsThere, StandsFrom, view_of, table_of, IsPieceOf};
+ghost use Rattle.vt_places.specs.inside.Told.{station_model, station_config, station_table, place_table, place_view};
+ghost use Rattle.vt_places.specs.inside.Making.{IsNew, AreNew};
+ghost use Rattle.vt_places.specs.inside.Calls.{IsHandOutRefusal};
+ghost use Rattle.vt_station.specs.inside.Crew.{IsSameJob, AllAt, AreInOrder, AreUnbegun, CannotBegin, StandsThere, StandsFrom, view_of, table_of, IsPieceOf};
 
 use crate::bell::{Bells, Start};
 use crate::driver::{Driver, Outcome, Wanted};
@@ -63,8 +63,8 @@ pub(crate) struct Job<'a, M: EventModel> {
 
 impl<'a, M: EventModel> Model for Job<'a, M> {
     ghost use Rattle.std.specs.Option.{option_map};
-    ghost use Rattle.vt_places.specs.Told.{station_model, station_config, station_table};
-    ghost use Rattle.vt_station.specs.Crew.{AtJob, IsJob};
+    ghost use Rattle.vt_places.specs.inside.Told.{station_model, station_config, station_table};
+    ghost use Rattle.vt_station.specs.inside.Crew.{AtJob, IsJob};
 
     ghost Value = { AtJob M };
 

@@ -1,15 +1,15 @@
 //! A run in pieces, after each of which its records are handed out.
 
 ghost use Rattle.std.specs.Prelude.{◌≡◌, length, Err, IfOk, IfErr};
-ghost use Rattle.vt_key.specs.Times.{Time as TimeValue};
+ghost use Rattle.vt_key.specs.promise.Times.{Time as TimeValue};
 ghost use Rattle.vt_key.specs.declared.fault.Fault.TheVariants.{Memory, NotLawful};
-ghost use Rattle.vt_model.specs.Simulation.{simulation_of};
-ghost use Rattle.vt_model.specs.Settings.{end_of};
-ghost use Rattle.vt_places.specs.Told.{station_model, station_config, station_table};
-ghost use Rattle.vt_places.specs.Making.{AreNew};
-ghost use Rattle.vt_places.specs.Calls.{IsHandOutRefusal};
+ghost use Rattle.vt_model.specs.promise.Simulation.{simulation_of};
+ghost use Rattle.vt_model.specs.promise.Settings.{end_of};
+ghost use Rattle.vt_places.specs.inside.Told.{station_model, station_config, station_table};
+ghost use Rattle.vt_places.specs.inside.Making.{AreNew};
+ghost use Rattle.vt_places.specs.inside.Calls.{IsHandOutRefusal};
 ghost use Rattle.vt_station.specs.declared.pieces.Standing.TheVariants.{GoesOn, Whole};
-ghost use Rattle.vt_station.specs.Crew.{AreUnbegun, IsPieceOf, StandsBy, wanted_finals};
+ghost use Rattle.vt_station.specs.inside.Crew.{AreUnbegun, IsPieceOf, StandsBy, wanted_finals};
 
 use crate::bell::Bells;
 use crate::crew::{closer_of, fault_of, finals_of, work_all};
@@ -50,7 +50,7 @@ pub struct Crew<'a, M: EventModel> {
 }
 
 impl<'a, M: EventModel> Model for Crew<'a, M> {
-    ghost use Rattle.vt_station.specs.Crew.{AtCrew, IsCrew};
+    ghost use Rattle.vt_station.specs.inside.Crew.{AtCrew, IsCrew};
 
     ghost Value = { AtCrew M };
 

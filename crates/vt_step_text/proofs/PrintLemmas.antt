@@ -1,6 +1,6 @@
 -- Text that is written in part and held in part.
 use Rattle.std.proofs.Common.{ℕ, List, ◌++◌, Option}
-use Rattle.vt_text.specs.Writing.{AppendsAllButHeld, AppendsIntoHeld}
+use Rattle.vt_text.specs.inside.Writing.{AppendsAllButHeld, AppendsIntoHeld}
 use Rattle.vt_text.proofs.TextLemmas.{pushed, then_put, then_stops}
 
 -- room was made, some text was put and then more text

@@ -3,14 +3,15 @@ use Rattle.std.proofs.Common.{◌≡◌, Bool, true, false, List, [], ◌∷◌,
 use Rattle.std.specs.Prelude.{◌⊎◌, IsTrue, if◌then◌else◌}
 use Rattle.std.specs.List.{AllByRecursion}
 use Rattle.vt_key.specs.declared.fault.Fault.{Fault}
-use Rattle.vt_model.specs.Simulation.{Simulation}
+use Rattle.vt_model.specs.promise.Simulation.{Simulation}
 use Rattle.vt_steps.specs.declared.step.Step.{Step}
 use Rattle.vt_steps.specs.declared.step.Reply.{Reply}
-use Rattle.vt_steps.specs.World.{World}
-use Rattle.vt_steps.specs.Next.{next, run, answers}
+use Rattle.vt_steps.specs.promise.World.{World}
+use Rattle.vt_steps.specs.promise.Next.{next, run, answers}
 use Rattle.vt_step_text.specs.declared.reading.NumberedStep.{NumberedStep}
-use Rattle.vt_step_text.specs.Replies.{NumberedAnswer}
-use Rattle.vt_step_text.specs.Replays.{is_no_step, world_after, AreAnswered, steps_taken, AreRightlyAnswered}
+use Rattle.vt_step_text.specs.promise.Replies.{NumberedAnswer}
+use Rattle.vt_step_text.specs.promise.Replays.{is_no_step, world_after, AreAnswered}
+use Rattle.vt_step_text.specs.inside.Replays.{steps_taken, AreRightlyAnswered}
 
 module _ {S P : Type 0} (sim : Simulation S P) where
   run_more : (world : World P) (step : Step) (steps : List Step) → run sim world (step ∷ steps) ≡ run sim (next sim world step).world steps

@@ -10,14 +10,14 @@ use Rattle.vt_text.proofs.NumberLemmas.{decimal_model, number_said-decimal}
 use Rattle.vt_steps.specs.declared.step.Step.{Step}
 use Rattle.vt_steps.specs.declared.step.Step.TheVariants.{Execute, Undo, Cancel, Home, Send, Fetch, Accept, Cut, Report, Commit, Close}
 use Rattle.vt_key.specs.declared.limits.TheConstants.{MAX_PROCESSES, MAX_WORKERS}
-use Rattle.vt_step_text.specs.StepText.{text_lines, is_passed_over, numbered, steps_from}
-use Rattle.vt_step_text.specs.StepLines.{step_text, text_of_steps, numbered_from, IsOf}
+use Rattle.vt_step_text.specs.promise.StepText.{text_lines, is_passed_over, numbered, steps_from}
+use Rattle.vt_step_text.specs.inside.StepLines.{step_text, text_of_steps, numbered_from, IsOf}
 use Rattle.vt_step_text.proofs.StepTextLemmas.{with_front, nothing_yet, read, at_end}
 use Rattle.std.proofs.Common.{lit<}
 use Rattle.std.proofs.lemmas.Bool.{and_parts}
 use Rattle.std.proofs.lemmas.Bool.Decides.{nat_tests}
 use Rattle.std.proofs.lemmas.List.Folds.{list_all-append}
-use Rattle.vt_step_text.specs.Words.{words_of, if_below, number_below, of_both, stamp_of, step_of_name, step_with_one, step_with_two, step_with_three, step_said}
+use Rattle.vt_step_text.specs.promise.Words.{words_of, if_below, number_below, of_both, stamp_of, step_of_name, step_with_one, step_with_two, step_with_three, step_said}
 
 digits : (n : ℕ) → n < 2 ^ 64 → list_all is_ascii_digit (decimal n) ≡ true
 digits n h = digits_decimal decimal_model n h

@@ -3,8 +3,8 @@ use Rattle.std.proofs.Common.{◌≡◌, ℕ, ◌+◌, ◌<◌, ◌==◌, true, 
 use Rattle.std.proofs.lemmas.List.Splits.{length-slice_split}
 use Rattle.vt_steps.specs.declared.step.Step.{Step}
 use Rattle.vt_step_text.specs.declared.reading.NumberedStep.{NumberedStep}
-use Rattle.vt_step_text.specs.Words.{words_of, step_said}
-use Rattle.vt_step_text.specs.StepText.{text_lines, is_passed_over, numbered, with_step, steps_from}
+use Rattle.vt_step_text.specs.promise.Words.{words_of, step_said}
+use Rattle.vt_step_text.specs.promise.StepText.{text_lines, is_passed_over, numbered, with_step, steps_from}
 
 -- steps that were read before the later lines
 abbrev pub with_front : List NumberedStep → Result (List NumberedStep) ℕ → Result (List NumberedStep) ℕ

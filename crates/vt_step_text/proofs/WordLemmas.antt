@@ -1,7 +1,7 @@
 -- The step that a line says, by its words.
 use Rattle.std.proofs.Common.{◌≡◌, ℕ, ◌==◌, ◌<◌, List, [], ◌∷◌, length, None, ap, sym, ◌∙◌, refl, arith}
 use Rattle.std.proofs.lemmas.List.Splits.{length-slice_split}
-use Rattle.vt_step_text.specs.Words.{words_of, step_of_name, step_with_one, step_with_two, step_with_three, step_said}
+use Rattle.vt_step_text.specs.promise.Words.{words_of, step_of_name, step_with_one, step_with_two, step_with_three, step_said}
 
 pub one_word : (lps workers : ℕ) (line : List ℕ) → words_of line ≡ line ∷ [] → step_of_name line ≡ step_said lps workers (words_of line)
 unfolding step_said

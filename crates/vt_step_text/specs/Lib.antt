@@ -1,5 +1,2 @@
-pub mod Words
-pub mod StepText
-pub mod Replies
-pub mod Replays
-pub mod StepLines
+pub mod promise
+pub mod inside

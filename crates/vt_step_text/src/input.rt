@@ -2,7 +2,7 @@
 
 ghost use Rattle.std.specs.Prelude.{◌≡◌, ◌≤◌, ◌⊎◌, IfOk, OnOk, IfErr, IfSome, Some, codes, vec_len};
 ghost use Rattle.std.specs.Io.KnownBytes.{IsAtEnd};
-ghost use Rattle.vt_key.specs.Faults.{option_named};
+ghost use Rattle.vt_key.specs.promise.Faults.{option_named};
 
 use crate::MAX_INPUT;
 use std::alloc::Global;

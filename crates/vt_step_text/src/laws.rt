@@ -3,14 +3,15 @@
 ghost use Rattle.std.specs.Prelude.{◌≡◌, ◌≤◌, ℕ, List, Ok};
 ghost use Rattle.std.specs.List.{AllByRecursion};
 ghost use Rattle.vt_key.specs.declared.limits.TheConstants.{MAX_PROCESSES, MAX_WORKERS};
-ghost use Rattle.vt_model.specs.Simulation.{Simulation};
-ghost use Rattle.vt_steps.specs.World.{World};
+ghost use Rattle.vt_model.specs.promise.Simulation.{Simulation};
+ghost use Rattle.vt_steps.specs.promise.World.{World};
 ghost use Rattle.vt_steps.specs.declared.step.Step.{Step};
 ghost use Rattle.vt_step_text.specs.declared.reading.NumberedStep.{NumberedStep};
-ghost use Rattle.vt_step_text.specs.Replies.{NumberedAnswer};
-ghost use Rattle.vt_step_text.specs.Replays.{AreAnswered, AreRightlyAnswered};
-ghost use Rattle.vt_step_text.specs.StepLines.{IsOf, numbered_from, text_of_steps};
-ghost use Rattle.vt_step_text.specs.StepText.{steps_of};
+ghost use Rattle.vt_step_text.specs.promise.Replies.{NumberedAnswer};
+ghost use Rattle.vt_step_text.specs.promise.Replays.{AreAnswered};
+ghost use Rattle.vt_step_text.specs.inside.Replays.{AreRightlyAnswered};
+ghost use Rattle.vt_step_text.specs.inside.StepLines.{IsOf, numbered_from, text_of_steps};
+ghost use Rattle.vt_step_text.specs.promise.StepText.{steps_of};
 
 /// A step of a replay to which memory is refused, or that would take a counter past its limit, isn't taken. The world at
 /// the end of a replay is that after the steps that were taken. If all were taken, their answers are those of the

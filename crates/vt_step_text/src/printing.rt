@@ -2,9 +2,10 @@
 
 ghost use Rattle.std.specs.Prelude.{◌≡◌, ◌≤◌, ◌+◌, ◌*◌, ◌++◌, length, OnOk, OnErr, IfErr};
 ghost use Rattle.std.specs.Io.KnownBytes.{Appends};
-ghost use Rattle.vt_text.specs.Writing.{AppendsAllButHeld, AppendsBeginning, AppendsIntoHeld};
+ghost use Rattle.vt_text.specs.promise.Writing.{AppendsBeginning};
+ghost use Rattle.vt_text.specs.inside.Writing.{AppendsAllButHeld, AppendsIntoHeld};
 ghost use Rattle.vt_text.specs.declared.buffer.TheConstants.{TEXT_ROOM};
-ghost use Rattle.vt_step_text.specs.Replies.{time_text, answer_text, reply_text, time_line, shown_text, state_text};
+ghost use Rattle.vt_step_text.specs.promise.Replies.{time_text, answer_text, reply_text, time_line, shown_text, state_text};
 
 use std::io::Write;
 use vt_key::{Fault, When};
@@ -84,7 +85,7 @@ fn push_time_line(text: &mut TextBuffer, word: &[u8], time: When)
 }
 
 /// Adds the four lines at the end of a replay: announced time, floor, least time, and number of records.
-#[tactic(auto, unfolding(crate::specs::Replies::shown_text))]
+#[tactic(auto, unfolding(crate::specs::promise::Replies::shown_text))]
 fn push_shown(text: &mut TextBuffer, announced: When, floor: When, least: When, records: usize)
     requires room { length text.old + SHOWN_LEN ≤ TEXT_ROOM }
     ensures text { text.new ≡ text.old ++ shown_text announced floor least records }

@@ -1,7 +1,8 @@
 //! Reading a step text.
 
 ghost use Rattle.std.specs.Prelude.{◌≡◌, IfOk, IfErr, Ok};
-ghost use Rattle.vt_step_text.specs.StepText.{is_passed_over, steps_of, IsStepTextRefusal};
+ghost use Rattle.vt_step_text.specs.promise.StepText.{is_passed_over, steps_of};
+ghost use Rattle.vt_step_text.specs.inside.StepText.{IsStepTextRefusal};
 
 use crate::lines::cut_once;
 use crate::words::step_of_line;

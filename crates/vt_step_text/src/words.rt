@@ -1,7 +1,7 @@
 //! Reading a line of a step text, word by word.
 
 ghost use Rattle.std.specs.Prelude.{◌≡◌};
-ghost use Rattle.vt_step_text.specs.Words.{words_of, number_below, step_of_name, step_with_one, step_with_two, step_with_three, step_said};
+ghost use Rattle.vt_step_text.specs.promise.Words.{words_of, number_below, step_of_name, step_with_one, step_with_two, step_with_three, step_said};
 
 use crate::lines::cut_once;
 use vt_key::Stamp;
@@ -21,7 +21,7 @@ fn number_below(word: &[u8], limit: u32) -> Option<u32>
 }
 
 /// The step of a line that is one word; None if the word is no such step.
-#[tactic(auto, unfolding(crate::specs::Words::step_of_name))]
+#[tactic(auto, unfolding(crate::specs::promise::Words::step_of_name))]
 fn step_of_name(name: &[u8]) -> Option<Step>
     ensures { result ≡ step_of_name name.now }
 {
@@ -33,7 +33,7 @@ fn step_of_name(name: &[u8]) -> Option<Step>
 }
 
 /// The step of a line with a word and one argument; None if there is no such step.
-#[tactic(auto, unfolding(crate::specs::Words::step_with_one))]
+#[tactic(auto, unfolding(crate::specs::promise::Words::step_with_one))]
 fn step_with_one(name: &[u8], a: &[u8], lps: u32, workers: u32) -> Option<Step>
     ensures { result ≡ step_with_one lps workers name.now a.now }
 {
@@ -57,7 +57,7 @@ fn step_with_one(name: &[u8], a: &[u8], lps: u32, workers: u32) -> Option<Step>
 }
 
 /// The step of a line with a word and two arguments; None if there is no such step.
-#[tactic(auto, unfolding(crate::specs::Words::step_with_two))]
+#[tactic(auto, unfolding(crate::specs::promise::Words::step_with_two))]
 fn step_with_two(name: &[u8], a: &[u8], b: &[u8], workers: u32) -> Option<Step>
     ensures { result ≡ step_with_two workers name.now a.now b.now }
 {
@@ -75,7 +75,7 @@ fn step_with_two(name: &[u8], a: &[u8], b: &[u8], workers: u32) -> Option<Step>
 }
 
 /// The step of a line with a word and three arguments; None if there is no such step.
-#[tactic(auto, unfolding(crate::specs::Words::step_with_three))]
+#[tactic(auto, unfolding(crate::specs::promise::Words::step_with_three))]
 fn step_with_three(
     name: &[u8],
     a: &[u8],

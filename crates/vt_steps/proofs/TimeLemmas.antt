@@ -1,8 +1,8 @@
 -- The earlier of two times, and the least time of letters.
 use Rattle.std.proofs.Common.{◌≡◌, ◌∙◌, List, [], ◌∷◌, ◌++◌, sym, ap, arith}
-use Rattle.vt_key.specs.Times.{Time, TimeBefore, TimeAtMost, earlier}
+use Rattle.vt_key.specs.promise.Times.{Time, TimeBefore, TimeAtMost, earlier}
 use Rattle.vt_key.specs.declared.letter.Letter.{Letter}
-use Rattle.vt_steps.specs.Letters.{letter_time, least_time}
+use Rattle.vt_steps.specs.promise.Letters.{letter_time, least_time}
 
 pub earlier_assoc : (a b c : Time) → earlier (earlier a b) c ≡ earlier a (earlier b c)
 earlier_assoc a b c = omega arith

@@ -8,15 +8,16 @@ ghost use Rattle.std.specs.List.{find};
 ghost use Rattle.vt_key.specs.declared.order.Stamp.{Stamp};
 ghost use Rattle.vt_key.specs.declared.letter.Letter.{Letter};
 ghost use Rattle.vt_key.specs.declared.letter.Mail.{Mail};
-ghost use Rattle.vt_model.specs.Simulation.{Simulation};
-ghost use Rattle.vt_model.specs.Histories.{IsLawful};
+ghost use Rattle.vt_model.specs.promise.Simulation.{Simulation};
+ghost use Rattle.vt_model.specs.promise.Histories.{IsLawful};
 ghost use Rattle.vt_steps.specs.declared.step.Step.{Step};
 ghost use Rattle.vt_steps.specs.declared.step.Step.TheVariants.{Home, Accept};
 ghost use Rattle.vt_steps.specs.declared.step.Reply.TheVariants.{Done};
-ghost use Rattle.vt_steps.specs.World.{LogicalProcess, Part};
-ghost use Rattle.vt_steps.specs.PartSteps.{is_for};
-ghost use Rattle.vt_steps.specs.Next.{next, reached};
-ghost use Rattle.vt_steps.specs.Claims.{AreCopiesRight, IsProcess, DoRanksRise, DoQueuesRise, HasEach, AreHistoriesRight};
+ghost use Rattle.vt_steps.specs.promise.World.{LogicalProcess, Part};
+ghost use Rattle.vt_steps.specs.promise.PartSteps.{is_for};
+ghost use Rattle.vt_steps.specs.promise.Next.{next, reached};
+ghost use Rattle.vt_steps.specs.promise.Claims.{IsProcess};
+ghost use Rattle.vt_steps.specs.inside.Claims.{AreCopiesRight, DoRanksRise, DoQueuesRise, HasEach, AreHistoriesRight};
 
 /// A stamp is live if a start sent its event, or if the event that sent it is executed. After any steps, a live stamp
 /// has one message or executed event, and no anti-message. A stamp that was made and isn't live has one of each, or

@@ -2,12 +2,12 @@
 
 ghost use Rattle.std.specs.Prelude.{ℕ, IsTrue};
 ghost use Rattle.vt_key.specs.declared.letter.Event.{Event};
-ghost use Rattle.vt_model.specs.Simulation.{Simulation};
+ghost use Rattle.vt_model.specs.promise.Simulation.{Simulation};
 ghost use Rattle.vt_steps.specs.declared.step.Step.{Step};
-ghost use Rattle.vt_steps.specs.World.{LogicalProcess, Part, World};
-ghost use Rattle.vt_steps.specs.Next.{next};
-ghost use Rattle.vt_steps.specs.Cells.{is_local};
-ghost use Rattle.vt_steps.specs.Laws.{IsFreeOf, Annihilate, IsMailKept, IsRefusalRight, ChangesOnePart, IsReplyRight, AreLettersRight, ActsOnOneCell, LeavesCells};
+ghost use Rattle.vt_steps.specs.promise.World.{LogicalProcess, Part, World};
+ghost use Rattle.vt_steps.specs.promise.Next.{next};
+ghost use Rattle.vt_steps.specs.inside.Cells.{is_local};
+ghost use Rattle.vt_steps.specs.inside.Laws.{IsFreeOf, Annihilate, IsMailKept, IsRefusalRight, ChangesOnePart, IsReplyRight, AreLettersRight, ActsOnOneCell, LeavesCells};
 
 /// A refused step changes nothing. A commit or a close is refused as closed if the book is closed. Every other
 /// refusal is not lawful.

@@ -3,18 +3,19 @@
 
 ghost use Rattle.std.specs.Prelude.{ℕ, ◌≡◌, ◌<◌, ◌++◌, [], ◌∷◌, List, Some, None, Ok, true, false, slice_get};
 ghost use Rattle.std.specs.List.{AllByRecursion};
-ghost use Rattle.vt_key.specs.Times.{TimeAtMost, TimeBefore};
-ghost use Rattle.vt_model.specs.Simulation.{Simulation};
-ghost use Rattle.vt_model.specs.Histories.{IsLawful};
+ghost use Rattle.vt_key.specs.promise.Times.{TimeAtMost, TimeBefore};
+ghost use Rattle.vt_model.specs.promise.Simulation.{Simulation};
+ghost use Rattle.vt_model.specs.promise.Histories.{IsLawful};
 ghost use Rattle.vt_steps.specs.declared.step.Step.{Step};
 ghost use Rattle.vt_steps.specs.declared.step.Reply.{Reply};
-ghost use Rattle.vt_steps.specs.World.{Part, World, book_floor};
-ghost use Rattle.vt_steps.specs.BoardSteps.{cut_board};
-ghost use Rattle.vt_steps.specs.BookSteps.{may_close};
-ghost use Rattle.vt_steps.specs.Cells.{CellName, Cell, worker_of, cell_of, act, local_steps};
-ghost use Rattle.vt_steps.specs.Laws.{IsAny};
-ghost use Rattle.vt_steps.specs.Next.{next};
-ghost use Rattle.vt_steps.specs.Marked.{Marked, made_done, IsMarkedRight, own_steps_of, shown, Leads, has_cut_since, has_closed};
+ghost use Rattle.vt_steps.specs.promise.World.{Part, World, book_floor};
+ghost use Rattle.vt_steps.specs.promise.BoardSteps.{cut_board};
+ghost use Rattle.vt_steps.specs.promise.BookSteps.{may_close};
+ghost use Rattle.vt_steps.specs.promise.Cells.{worker_of};
+ghost use Rattle.vt_steps.specs.inside.Cells.{CellName, Cell, cell_of, act, local_steps};
+ghost use Rattle.vt_steps.specs.inside.Laws.{IsAny};
+ghost use Rattle.vt_steps.specs.promise.Next.{next};
+ghost use Rattle.vt_steps.specs.inside.Marked.{Marked, made_done, IsMarkedRight, own_steps_of, shown, Leads, has_cut_since, has_closed};
 
 /// Take local steps of a worker and then one step of it at a cell. They do the same in every world with this part of
 /// the worker and this cell, and change no other part and no other cell. So they may be put last in a run, whatever

@@ -2,11 +2,11 @@
 
 ghost use Rattle.std.specs.Prelude.{◌≡◌, ℕ, List, [], ◌∷◌, ◌++◌, map, Result};
 ghost use Rattle.vt_key.specs.declared.fault.Fault.{Fault};
-ghost use Rattle.vt_model.specs.Simulation.{Simulation};
+ghost use Rattle.vt_model.specs.promise.Simulation.{Simulation};
 ghost use Rattle.vt_steps.specs.declared.step.Step.{Step};
 ghost use Rattle.vt_steps.specs.declared.step.Reply.{Reply};
-ghost use Rattle.vt_steps.specs.World.{Entry, LogicalProcess, triple_after};
-ghost use Rattle.vt_steps.specs.StandsFor.{Remembered, ProcessMemory, WorldMemory, entry_of, fired_at, IsRemembered, StandsForProcess, GoesOn, RunsTo, StandsForReached};
+ghost use Rattle.vt_steps.specs.promise.World.{Entry, LogicalProcess, triple_after};
+ghost use Rattle.vt_steps.specs.inside.StandsFor.{Remembered, ProcessMemory, WorldMemory, entry_of, fired_at, IsRemembered, StandsForProcess, GoesOn, RunsTo, StandsForReached};
 
 /// The state, send number and stream position of a value are those of its process after all its events, committed or
 /// not.

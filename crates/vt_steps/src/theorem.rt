@@ -4,17 +4,18 @@
 //! is any that meets the laws, and the first serials are any. The list may contain steps that are refused.
 
 ghost use Rattle.std.specs.Prelude.{ℕ, ◌≡◌, IsTrue, List, Some, slice_get};
-ghost use Rattle.vt_key.specs.Times.{TimeAtMost};
-ghost use Rattle.vt_key.specs.Lists.{IsRisingBy};
-ghost use Rattle.vt_model.specs.Simulation.{Simulation};
-ghost use Rattle.vt_model.specs.Histories.{IsLawful};
-ghost use Rattle.vt_model.specs.Rows.{RowBefore};
+ghost use Rattle.vt_key.specs.promise.Times.{TimeAtMost};
+ghost use Rattle.vt_key.specs.promise.Lists.{IsRisingBy};
+ghost use Rattle.vt_model.specs.promise.Simulation.{Simulation};
+ghost use Rattle.vt_model.specs.promise.Histories.{IsLawful};
+ghost use Rattle.vt_model.specs.promise.Rows.{RowBefore};
 ghost use Rattle.vt_steps.specs.declared.step.Step.{Step};
-ghost use Rattle.vt_steps.specs.Rows.{rows_in_order};
-ghost use Rattle.vt_steps.specs.World.{Part, least};
-ghost use Rattle.vt_steps.specs.Finals.{worker_finals, part_values};
-ghost use Rattle.vt_steps.specs.Next.{reached, run};
-ghost use Rattle.vt_steps.specs.Claims.{AreFloorsRight, AreRecordsRight, NothingFalls, IsWhole, StaysClosed, AreProcessesFinal, DoGuardsPass, IsTimeWarpRight};
+ghost use Rattle.vt_steps.specs.promise.Rows.{rows_in_order};
+ghost use Rattle.vt_steps.specs.promise.World.{Part, least};
+ghost use Rattle.vt_steps.specs.inside.Finals.{worker_finals, part_values};
+ghost use Rattle.vt_steps.specs.promise.Next.{reached, run};
+ghost use Rattle.vt_steps.specs.promise.Claims.{AreFloorsRight, AreRecordsRight, NothingFalls, IsWhole, StaysClosed, IsTimeWarpRight};
+ghost use Rattle.vt_steps.specs.inside.Claims.{AreProcessesFinal, DoGuardsPass};
 
 /// After any steps, the book's floor is at most the announced time. The announced time is at most the least time of
 /// any unprocessed or travelling event or anti-message. In any further steps neither falls, and the records that the

@@ -1,6 +1,7 @@
 -- The words that are drawn one after another.
 use Rattle.std.proofs.Common.{◌≡◌, ℕ, ◌+◌, ◌%◌, ◌^◌, ◌<◌, ap, ◌∙◌, arith}
-use Rattle.vt_stream.specs.Words.{Stream, word, word_of, moved}
+use Rattle.vt_stream.specs.promise.Words.{word}
+use Rattle.vt_stream.specs.inside.Words.{Stream, word_of, moved}
 use Rattle.vt_stream.proofs.WordLemmas.{word-wraps}
 
 -- n words and then k are n + k words

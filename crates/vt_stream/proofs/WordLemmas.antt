@@ -2,7 +2,7 @@
 use Rattle.std.proofs.Common.{◌≡◌, ℕ, ◌+◌, ◌%◌, ◌^◌, ◌<◌, List, ap, arith}
 use Rattle.rand_chacha.specs.ChaCha.{word_at}
 use Rattle.rand_chacha.specs.Block.{block_word}
-use Rattle.vt_stream.specs.Words.{word}
+use Rattle.vt_stream.specs.promise.Words.{word}
 
 -- the word at a place itself
 pub word-here : (key : List ℕ) (process place : ℕ) → place < 2 ^ 64 → word key process place ≡ word_at 4 key process place

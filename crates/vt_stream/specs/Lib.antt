@@ -1,3 +1,2 @@
-pub mod Words
-pub mod Drawn
-pub mod DrawnLaws
+pub mod promise
+pub mod inside

@@ -4,7 +4,8 @@
 //! determine a word. So a rollback gives words back by moving the position back.
 
 ghost use Rattle.std.specs.Prelude.{◌≡◌, ℕ, ◌+◌, ◌-◌, ◌*◌, ◌/◌, ◌%◌, ◌^◌, ◌<◌, ◌≤◌, slice_index};
-ghost use Rattle.vt_stream.specs.Words.{seed_key, word, word_of, moved};
+ghost use Rattle.vt_stream.specs.promise.Words.{seed_key, word};
+ghost use Rattle.vt_stream.specs.inside.Words.{word_of, moved};
 
 use rand_chacha::ChaCha8Rng;
 use rand_core::SeedableRng;
@@ -32,7 +33,8 @@ pub struct LpStream {
 
 impl Model for LpStream {
     ghost use Rattle.std.specs.Prelude.{◌≤◌};
-    ghost use Rattle.vt_stream.specs.Words.{Stream, seed_key, AreWordsFrom};
+    ghost use Rattle.vt_stream.specs.promise.Words.{seed_key};
+    ghost use Rattle.vt_stream.specs.inside.Words.{Stream, AreWordsFrom};
 
     ghost Value = { Stream };
 

@@ -1,9 +1,10 @@
 -- Lines of final values, one after the other.
 use Rattle.std.proofs.Common.{◌≡◌, ◌∙◌, ◌++◌, ◌+◌, ◌<◌, ◌≤◌, ℕ, suc, List, [], ◌∷◌, length, take, drop, get_or, Option, refl, ap, sym, subst, append-nil, append_assoc, take-append-drop, length-take, arith}
 use Rattle.std.proofs.lemmas.List.{take_more}
-use Rattle.vt_text.specs.Writing.{AppendsBeginning, AppendsAllButHeld}
+use Rattle.vt_text.specs.promise.Writing.{AppendsBeginning}
+use Rattle.vt_text.specs.inside.Writing.{AppendsAllButHeld}
 use Rattle.vt_text.proofs.TextLemmas.{made_room, pushed, flush_fails, of_longer}
-use Rattle.vt_tasks.specs.Printed.{final_lines, final_text}
+use Rattle.vt_tasks.specs.promise.Printed.{final_lines, final_text}
 
 -- the lines of values, and then those of more values
 lines-append : (lp : ℕ) (values more : List ℕ) → final_lines lp (values ++ more) ≡ final_lines lp values ++ final_lines (lp + length values) more

@@ -6,21 +6,25 @@ use Rattle.std.proofs.lemmas.List.{length-map}
 use Rattle.clap.specs.Words.{Text}
 use Rattle.vt_key.specs.declared.fault.Fault.{Fault}
 use Rattle.vt_key.specs.declared.fault.Fault.TheVariants.{Memory, NotLawful, Busy, Closed, Exhausted, TurnsSpent, BadOption, BadStep, Output}
-use Rattle.vt_key.specs.Faults.{option_named}
+use Rattle.vt_key.specs.promise.Faults.{option_named}
 use Rattle.vt_model.specs.declared.settings.Config.{Config}
 use Rattle.vt_options.specs.declared.choices.Task.{Task}
 use Rattle.vt_options.specs.declared.choices.Task.TheVariants.{Run, Replay}
 use Rattle.vt_options.specs.declared.own.Chosen.{Chosen}
-use Rattle.vt_options.specs.Asked.{AskTaskWith}
-use Rattle.vt_options.specs.Line.{given_by}
-use Rattle.vt_options.specs.Own.{Models, app_for, line_for, GiveModel, GiveValues}
-use Rattle.vt_options.specs.Requests.{AskHelpOf, IsRefusedAsOf, IsRefusedByOf}
-use Rattle.vt_options.specs.Table.{Given, NumberOption, value_in}
-use Rattle.vt_options.specs.Tasks.{task_config, with_config}
-use Rattle.vt_tasks.specs.Tasks.{BeginsWithinLimit}
-use Rattle.vt_tasks.specs.Outcomes.{IsAskedByLine, EndsWith}
-use Rattle.vt_tasks.specs.Programs.{IsTaskOf}
-use Rattle.vt_tasks.specs.Models.{AnyHandlers, CarriesOut, DoesTask, Making, StopsTask, program_of, IsDoneFor, EndsFor, IsReadFor, AskBadLineFor}
+use Rattle.vt_options.specs.promise.Asked.{AskTaskWith}
+use Rattle.vt_options.specs.promise.Line.{given_by}
+use Rattle.vt_options.specs.promise.Own.{Models, app_for, line_for, GiveModel, GiveValues}
+use Rattle.vt_options.specs.promise.Requests.{AskHelpOf, IsRefusedAsOf}
+use Rattle.vt_options.specs.inside.Requests.{IsRefusedByOf}
+use Rattle.vt_options.specs.promise.Table.{Given, NumberOption, value_in}
+use Rattle.vt_options.specs.promise.Tasks.{task_config}
+use Rattle.vt_options.specs.inside.Tasks.{with_config}
+use Rattle.vt_tasks.specs.inside.Tasks.{BeginsWithinLimit}
+use Rattle.vt_tasks.specs.promise.Outcomes.{EndsWith}
+use Rattle.vt_tasks.specs.inside.Outcomes.{IsAskedByLine}
+use Rattle.vt_tasks.specs.inside.Programs.{IsTaskOf}
+use Rattle.vt_tasks.specs.promise.Models.{AnyHandlers, Making, program_of, IsDoneFor, EndsFor, IsReadFor, AskBadLineFor}
+use Rattle.vt_tasks.specs.inside.Models.{CarriesOut, DoesTask, StopsTask}
 use Rattle.vt_tasks.proofs.OutcomeLemmas as outcomes
 
 -- as many values are given as there are options

@@ -11,17 +11,19 @@ use Rattle.vt_key.specs.declared.fault.Fault.{Fault}
 use Rattle.vt_key.specs.declared.fault.Fault.TheVariants.{Memory, NotLawful, Busy, Closed, Exhausted, TurnsSpent, BadOption, BadStep, Output}
 use Rattle.vt_key.specs.declared.limits.TheConstants.{MAX_COUNT}
 use Rattle.vt_step_text.specs.declared.reading.NumberedStep.{NumberedStep}
-use Rattle.vt_step_text.specs.StepText.{steps_of}
-use Rattle.vt_text.specs.Numbers.{number_said}
-use Rattle.vt_model.specs.Settings.{is_between}
+use Rattle.vt_step_text.specs.promise.StepText.{steps_of}
+use Rattle.vt_text.specs.promise.Numbers.{number_said}
+use Rattle.vt_model.specs.promise.Settings.{is_between}
 use Rattle.vt_options.specs.declared.choices.Synch.{Synch}
 use Rattle.vt_options.specs.declared.choices.Synch.TheVariants.{Sequential, Optimistic}
-use Rattle.vt_options.specs.Table
-use Rattle.vt_options.specs.Table.{Given, if_between, number_in, value_in}
-use Rattle.vt_options.specs.Requests.{AreBy, AskHelpOf, IsRefusedAsOf}
-use Rattle.vt_tasks.specs.Runs.{StopsRun, StopsWork, StopsBy}
-use Rattle.vt_tasks.specs.Replays.{GivesSteps, EndsReplayBy}
-use Rattle.vt_tasks.specs.Outcomes.{Program, IsAskedByLine, IsDoneBy, EndsWith, AskBadLine}
+use Rattle.vt_options.specs.promise.Table
+use Rattle.vt_options.specs.promise.Table.{Given, if_between, number_in, value_in}
+use Rattle.vt_options.specs.promise.Requests.{AreBy, AskHelpOf, IsRefusedAsOf}
+use Rattle.vt_tasks.specs.inside.Runs.{StopsRun, StopsWork, StopsBy}
+use Rattle.vt_tasks.specs.promise.Replays.{GivesSteps}
+use Rattle.vt_tasks.specs.inside.Replays.{EndsReplayBy}
+use Rattle.vt_tasks.specs.promise.Outcomes.{Program, IsDoneBy, EndsWith, AskBadLine}
+use Rattle.vt_tasks.specs.inside.Outcomes.{IsAskedByLine}
 
 module _ (p : Program) (words : List Text) (r : p.Run) (input old new : Option (List ℕ)) (asked : p.AskRun words r) where
   -- a sequential run that was refused ends the program so

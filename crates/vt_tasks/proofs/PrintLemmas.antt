@@ -6,19 +6,21 @@ use Rattle.vt_key.specs.declared.fault.Fault.{Fault}
 use Rattle.vt_key.specs.declared.fault.Fault.TheVariants.{Memory, Output}
 use Rattle.vt_model.specs.declared.rows.Record.{Record}
 use Rattle.vt_model.specs.declared.settings.Config.{Config}
-use Rattle.vt_model.specs.Handler.{Handlers}
-use Rattle.vt_model.specs.Settings.{end_of}
-use Rattle.vt_model.specs.Simulation.{Simulation, simulation_of}
-use Rattle.vt_model.specs.Sequential.{seq_records}
-use Rattle.vt_seq.specs.Given.{records_to, BeginRun, AddsStep}
-use Rattle.vt_seq.specs.Limits.{IsRunStepRefusal}
-use Rattle.vt_seq.specs.Standing.{Standing, IsAt}
+use Rattle.vt_model.specs.promise.Handler.{Handlers}
+use Rattle.vt_model.specs.promise.Settings.{end_of}
+use Rattle.vt_model.specs.promise.Simulation.{Simulation, simulation_of}
+use Rattle.vt_model.specs.promise.Sequential.{seq_records}
+use Rattle.vt_seq.specs.inside.Given.{records_to, BeginRun, AddsStep}
+use Rattle.vt_seq.specs.inside.Limits.{IsRunStepRefusal}
+use Rattle.vt_seq.specs.inside.Standing.{Standing, IsAt}
 use Rattle.vt_text.specs.declared.version.Version.{Version}
-use Rattle.vt_text.specs.Records.{record_text}
-use Rattle.vt_text.specs.Writing.{AppendsBeginning, AppendsAllButHeld}
+use Rattle.vt_text.specs.promise.Records.{record_text}
+use Rattle.vt_text.specs.promise.Writing.{AppendsBeginning}
+use Rattle.vt_text.specs.inside.Writing.{AppendsAllButHeld}
 use Rattle.vt_text.proofs.TextLemmas.{written, put_on, put_fails, of_longer, flush_fails}
-use Rattle.vt_tasks.specs.Printed.{final_lines, finals_text, printed_first, printed_lines, printed_text}
-use Rattle.vt_tasks.specs.Runs.{run_text, text_below, PassesInRun, WritesBeginning, StopsRun}
+use Rattle.vt_tasks.specs.promise.Printed.{final_lines, finals_text, printed_first, printed_lines, printed_text}
+use Rattle.vt_tasks.specs.promise.Runs.{run_text, text_below, PassesInRun, WritesBeginning}
+use Rattle.vt_tasks.specs.inside.Runs.{StopsRun}
 
 -- the lines of records begin those of more records
 pub printed_lines-append : (shown : Option Version) (records more : List Record) → printed_lines shown (records ++ more) ≡ printed_lines shown records ++ printed_lines shown more

@@ -10,12 +10,13 @@ use Rattle.vt_key.specs.declared.fault.Fault.TheVariants.{Output}
 use Rattle.vt_model.specs.declared.settings.Config.{Config}
 use Rattle.vt_options.specs.declared.choices.Task.{Task}
 use Rattle.vt_options.specs.declared.own.Chosen.{Chosen}
-use Rattle.vt_options.specs.Own.{Models, app_for, line_for}
-use Rattle.vt_options.specs.Requests.{AskHelpOf, IsRefusedAsOf}
-use Rattle.vt_tasks.specs.Outcomes.{BeginsHelp, EndsWith}
-use Rattle.vt_tasks.specs.Programs.{CallAnswers, IsTaskAnswered, IsDoneByCall, EndsByCall, IsReadByCall}
-use Rattle.vt_tasks.specs.Models.{AnyHandlers, CarriesOut, Making, program_of, IsDoneFor, EndsFor, IsReadFor, AskBadLineFor}
-use Rattle.vt_tasks.specs.Refusals.{status_of}
+use Rattle.vt_options.specs.promise.Own.{Models, app_for, line_for}
+use Rattle.vt_options.specs.promise.Requests.{AskHelpOf, IsRefusedAsOf}
+use Rattle.vt_tasks.specs.promise.Outcomes.{BeginsHelp, EndsWith}
+use Rattle.vt_tasks.specs.inside.Programs.{CallAnswers, IsTaskAnswered, IsDoneByCall, EndsByCall, IsReadByCall}
+use Rattle.vt_tasks.specs.promise.Models.{AnyHandlers, Making, program_of, IsDoneFor, EndsFor, IsReadFor, AskBadLineFor}
+use Rattle.vt_tasks.specs.inside.Models.{CarriesOut}
+use Rattle.vt_tasks.specs.promise.Refusals.{status_of}
 use Rattle.vt_tasks.proofs.ModelsLemmas as models
 
 module _ (name : Text) (table : Models) (words : List Text) (Answers : Chosen → Task → Result ⊤ Fault → Type 0) (old new : Option (List ℕ)) where

@@ -1,7 +1,8 @@
 -- The line of a refusal, by the parts that are put one behind the other.
 use Rattle.std.proofs.Common.{◌≡◌, ◌∙◌, ◌++◌, [], List, ℕ, Option, sym, subst, append_assoc}
 use Rattle.std.specs.Io.KnownBytes.{Appends}
-use Rattle.vt_text.specs.Writing.{AppendsAllButHeld, AppendsBeginning}
+use Rattle.vt_text.specs.promise.Writing.{AppendsBeginning}
+use Rattle.vt_text.specs.inside.Writing.{AppendsAllButHeld}
 use Rattle.vt_text.proofs.TextLemmas.{put_on, put_fails, of_longer, flush_fails, written}
 
 module _ (name head carried end whole : List ℕ) (all : ((name ++ head) ++ carried) ++ end ≡ whole) where

@@ -3,28 +3,30 @@ use Rattle.std.proofs.Common.{◌≡◌, ℕ, ◌<◌, List, [], ◌++◌, lengt
 use Rattle.std.specs.Prelude.{◌⊎◌}
 use Rattle.std.specs.Io.KnownBytes.{Appends}
 use Rattle.std.proofs.KnownBytes.{Appends-trans}
-use Rattle.vt_key.specs.Times.{Time}
+use Rattle.vt_key.specs.promise.Times.{Time}
 use Rattle.vt_key.specs.declared.fault.Fault.{Fault}
 use Rattle.vt_key.specs.declared.fault.Fault.TheVariants.{Memory, Output}
 use Rattle.vt_model.specs.declared.rows.Record.{Record}
-use Rattle.vt_model.specs.Histories.{IsLawful}
-use Rattle.vt_model.specs.Sequential.{seq_records}
-use Rattle.vt_model.specs.Simulation.{Simulation}
-use Rattle.vt_steps.specs.World.{World, opening_world, least, book_floor, book_records}
-use Rattle.vt_steps.specs.Next.{reached}
+use Rattle.vt_model.specs.promise.Histories.{IsLawful}
+use Rattle.vt_model.specs.promise.Sequential.{seq_records}
+use Rattle.vt_model.specs.promise.Simulation.{Simulation}
+use Rattle.vt_steps.specs.promise.World.{World, opening_world, least, book_floor, book_records}
+use Rattle.vt_steps.specs.promise.Next.{reached}
 use Rattle.vt_steps.proofs.book.ReachedBooks.{reached-accounted}
 use Rattle.vt_steps.proofs.book.Records.{records-right}
-use Rattle.vt_world.specs.Answers.{PassesAtStart}
+use Rattle.vt_world.specs.promise.Answers.{PassesAtStart}
 use Rattle.vt_text.specs.declared.version.Version.{Version}
-use Rattle.vt_text.specs.Records.{records_text}
-use Rattle.vt_text.specs.Writing.{AppendsAllButHeld, AppendsBeginning}
+use Rattle.vt_text.specs.promise.Records.{records_text}
+use Rattle.vt_text.specs.promise.Writing.{AppendsBeginning}
+use Rattle.vt_text.specs.inside.Writing.{AppendsAllButHeld}
 use Rattle.vt_text.proofs.TextLemmas.{pushed, written, flush_fails, of_longer}
 use Rattle.vt_step_text.specs.declared.reading.NumberedStep.{NumberedStep}
-use Rattle.vt_step_text.specs.Replies.{NumberedAnswer, replies_text, shown_text, state_text}
-use Rattle.vt_step_text.specs.Replays.{steps_taken}
+use Rattle.vt_step_text.specs.promise.Replies.{NumberedAnswer, replies_text, shown_text, state_text}
+use Rattle.vt_step_text.specs.inside.Replays.{steps_taken}
 use Rattle.vt_step_text.proofs.ReplayLemmas.{rightly_answered}
-use Rattle.vt_tasks.specs.Replays.{AreReplies, IsReplayText, IsRepliesText, Writes, Begins, StopsReplay}
-use Rattle.vt_tasks.specs.Replying.{PutsReplies, StopsReplies, shown_of}
+use Rattle.vt_tasks.specs.promise.Replays.{AreReplies, IsReplayText, IsRepliesText, Writes, Begins}
+use Rattle.vt_tasks.specs.inside.Replays.{StopsReplay}
+use Rattle.vt_tasks.specs.inside.Replying.{PutsReplies, StopsReplies, shown_of}
 
 -- ---- what the world shows
 

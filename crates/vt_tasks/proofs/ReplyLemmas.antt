@@ -7,25 +7,26 @@ use Rattle.std.proofs.lemmas.Grind.{flat_map-append}
 use Rattle.vt_key.specs.declared.fault.Fault.{Fault}
 use Rattle.vt_key.specs.declared.fault.Fault.TheVariants.{Exhausted}
 use Rattle.vt_key.specs.declared.limits.TheConstants.{MAX_COUNT}
-use Rattle.vt_model.specs.Handler.{Handlers}
-use Rattle.vt_model.specs.Simulation.{Simulation, simulation_of}
+use Rattle.vt_model.specs.promise.Handler.{Handlers}
+use Rattle.vt_model.specs.promise.Simulation.{Simulation, simulation_of}
 use Rattle.vt_steps.specs.declared.step.Step.{Step}
 use Rattle.vt_steps.specs.declared.step.Step.TheVariants.{Execute, Undo, Cancel, Home, Send, Fetch, Accept, Cut, Report, Commit, Close}
-use Rattle.vt_steps.specs.Letters.{count_of}
-use Rattle.vt_lp.specs.Guards.{number_of}
-use Rattle.vt_kernel.specs.Refusals.{IsSpent, PassesIn, PassesLimit}
+use Rattle.vt_steps.specs.promise.Letters.{count_of}
+use Rattle.vt_lp.specs.promise.Guards.{number_of}
+use Rattle.vt_kernel.specs.promise.Refusals.{IsSpent, PassesIn, PassesLimit}
 use Rattle.vt_steps.specs.declared.step.Reply.{Reply}
-use Rattle.vt_steps.specs.World.{Part, World}
-use Rattle.vt_steps.specs.Next.{Outcome, next}
-use Rattle.vt_steps.specs.Cells.{worker_of}
+use Rattle.vt_steps.specs.promise.World.{Part, World}
+use Rattle.vt_steps.specs.promise.Next.{Outcome, next}
+use Rattle.vt_steps.specs.promise.Cells.{worker_of}
 use Rattle.vt_steps.proofs.steps.Refusals.{refusals}
-use Rattle.vt_world.specs.Calls.{RunWorld, IsStepOf}
+use Rattle.vt_world.specs.promise.Calls.{RunWorld, IsStepOf}
 use Rattle.vt_step_text.specs.declared.reading.NumberedStep.{NumberedStep}
-use Rattle.vt_step_text.specs.Replies.{NumberedAnswer, reply_text, replies_text}
-use Rattle.vt_step_text.specs.Replays.{is_no_step, world_after, AreAnswered}
-use Rattle.vt_tasks.specs.Replays.{IsExact, AreExact, AreReplies}
-use Rattle.vt_tasks.specs.Replying.{PutsReplies, StopsReplies}
-use Rattle.vt_text.specs.Writing.{AppendsAllButHeld, AppendsBeginning}
+use Rattle.vt_step_text.specs.promise.Replies.{NumberedAnswer, reply_text, replies_text}
+use Rattle.vt_step_text.specs.promise.Replays.{is_no_step, world_after, AreAnswered}
+use Rattle.vt_tasks.specs.promise.Replays.{IsExact, AreExact, AreReplies}
+use Rattle.vt_tasks.specs.inside.Replying.{PutsReplies, StopsReplies}
+use Rattle.vt_text.specs.promise.Writing.{AppendsBeginning}
+use Rattle.vt_text.specs.inside.Writing.{AppendsAllButHeld}
 use Rattle.vt_text.proofs.TextLemmas.{put_on, put_fails, of_longer}
 use Rattle.std.proofs.KnownBytes.{Appends-nil}
 use Rattle.std.proofs.lemmas.Bool.{cases_lt}

@@ -6,8 +6,9 @@ use Rattle.std.proofs.lemmas.List.{drop_min, drop-drop, take_min}
 use Rattle.std.proofs.lemmas.Grind.{flat_map-append}
 use Rattle.vt_model.specs.declared.rows.Record.{Record}
 use Rattle.vt_text.specs.declared.version.Version.{Version}
-use Rattle.vt_text.specs.Records.{record_text, record_lines}
-use Rattle.vt_text.specs.Writing.{AppendsBeginning, AppendsAllButHeld}
+use Rattle.vt_text.specs.promise.Records.{record_text, record_lines}
+use Rattle.vt_text.specs.promise.Writing.{AppendsBeginning}
+use Rattle.vt_text.specs.inside.Writing.{AppendsAllButHeld}
 use Rattle.vt_text.proofs.TextLemmas.{flush_fails, made_room, of_longer}
 
 -- the records from a place on are a share and those that come after it

@@ -9,9 +9,11 @@ use Rattle.vt_model.specs.declared.settings.Config.{Config}
 use Rattle.vt_options.specs.declared.choices.Task.{Task}
 use Rattle.vt_options.specs.declared.choices.Task.TheVariants.{Run, Replay}
 use Rattle.vt_options.specs.declared.own.Chosen.{Chosen}
-use Rattle.vt_options.specs.Tasks.{task_config, with_config}
-use Rattle.vt_tasks.specs.Models.{AnyHandlers, CarriesOut, Making}
-use Rattle.vt_tasks.specs.Tasks.{BeginsWithinLimit, IsTaskDone, TaskEnds, KeepsInput}
+use Rattle.vt_options.specs.promise.Tasks.{task_config}
+use Rattle.vt_options.specs.inside.Tasks.{with_config}
+use Rattle.vt_tasks.specs.promise.Models.{AnyHandlers, Making}
+use Rattle.vt_tasks.specs.inside.Models.{CarriesOut}
+use Rattle.vt_tasks.specs.inside.Tasks.{BeginsWithinLimit, IsTaskDone, TaskEnds, KeepsInput}
 
 -- its serials begin as they did
 pub counted_with : (config : Config) (task : Task) → BeginsWithinLimit task → BeginsWithinLimit (with_config config task)

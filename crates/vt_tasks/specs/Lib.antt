@@ -1,10 +1,2 @@
-pub mod Refusals
-pub mod Printed
-pub mod Runs
-pub mod Replays
-pub mod Replying
-pub mod Tasks
-pub mod Outcomes
-pub mod Programs
-pub mod Models
-pub mod Shares
+pub mod promise
+pub mod inside

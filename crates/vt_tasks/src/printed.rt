@@ -3,8 +3,9 @@
 ghost use Rattle.std.specs.Prelude.{◌≡◌, ◌+◌, ◌*◌, ◌≤◌, ◌++◌, length, OnOk, IfErr, OnErr};
 ghost use Rattle.std.specs.Io.KnownBytes.{Appends};
 ghost use Rattle.vt_text.specs.declared.buffer.TheConstants.{TEXT_ROOM};
-ghost use Rattle.vt_text.specs.Writing.{AppendsAllButHeld, AppendsBeginning, AppendsIntoHeld};
-ghost use Rattle.vt_tasks.specs.Printed.{final_lines, final_text, printed_first, printed_lines, printed_text};
+ghost use Rattle.vt_text.specs.promise.Writing.{AppendsBeginning};
+ghost use Rattle.vt_text.specs.inside.Writing.{AppendsAllButHeld, AppendsIntoHeld};
+ghost use Rattle.vt_tasks.specs.promise.Printed.{final_lines, final_text, printed_first, printed_lines, printed_text};
 
 use std::io::Write;
 use vt_key::Fault;

@@ -2,10 +2,10 @@
 
 ghost use Rattle.std.specs.Prelude.{◌≡◌, ◌*◌, take, drop, OnOk, IfErr, OnErr};
 ghost use Rattle.std.specs.Io.KnownBytes.{Appends};
-ghost use Rattle.vt_text.specs.Records.{record_lines};
-ghost use Rattle.vt_text.specs.Writing.{AppendsBeginning};
-ghost use Rattle.vt_tasks.specs.Printed.{printed_lines};
-ghost use Rattle.vt_tasks.specs.Shares.{HasLines};
+ghost use Rattle.vt_text.specs.promise.Records.{record_lines};
+ghost use Rattle.vt_text.specs.promise.Writing.{AppendsBeginning};
+ghost use Rattle.vt_tasks.specs.promise.Printed.{printed_lines};
+ghost use Rattle.vt_tasks.specs.inside.Shares.{HasLines};
 
 use std::alloc::Global;
 use std::io::Write;

@@ -3,9 +3,9 @@
 ghost use Rattle.std.specs.Prelude.{◌≡◌, ◌≢◌, map, OnOk, IfErr};
 ghost use Rattle.std.specs.Io.KnownBytes.{Keeps};
 ghost use Rattle.vt_key.specs.declared.fault.Fault.{Fault};
-ghost use Rattle.vt_options.specs.Own.{AllHaveDefaults, models_of};
-ghost use Rattle.vt_tasks.specs.Refusals.{TellsRefusalOf, status_of};
-ghost use Rattle.vt_tasks.specs.Programs.{CallAnswers, IsTaskOf, IsDoneByCall, EndsByCall, IsReadByCall};
+ghost use Rattle.vt_options.specs.inside.Own.{AllHaveDefaults, models_of};
+ghost use Rattle.vt_tasks.specs.promise.Refusals.{TellsRefusalOf, status_of};
+ghost use Rattle.vt_tasks.specs.inside.Programs.{CallAnswers, IsTaskOf, IsDoneByCall, EndsByCall, IsReadByCall};
 
 use crate::tell_refusal;
 use std::alloc::Global;

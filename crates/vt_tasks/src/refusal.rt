@@ -2,8 +2,9 @@
 
 ghost use Rattle.std.specs.Prelude.{◌≡◌, ◌++◌, OnOk, OnErr};
 ghost use Rattle.std.specs.Io.KnownBytes.{Appends};
-ghost use Rattle.vt_text.specs.Writing.{AppendsAllButHeld, AppendsBeginning};
-ghost use Rattle.vt_tasks.specs.Refusals.{head_text, carried_text, refusal_text, TellsRefusalOf, status_of};
+ghost use Rattle.vt_text.specs.promise.Writing.{AppendsBeginning};
+ghost use Rattle.vt_text.specs.inside.Writing.{AppendsAllButHeld};
+ghost use Rattle.vt_tasks.specs.promise.Refusals.{head_text, carried_text, refusal_text, TellsRefusalOf, status_of};
 
 use std::io::Write;
 use vt_key::Fault;

@@ -4,11 +4,12 @@ ghost use Rattle.std.specs.Prelude.{◌≡◌, ◌≤◌, ◌⊎◌, ◌++◌, O
 ghost use Rattle.std.specs.Io.KnownBytes.{Appends};
 ghost use Rattle.vt_key.specs.declared.limits.TheConstants.{MAX_COUNT};
 ghost use Rattle.vt_key.specs.declared.fault.Fault.{Fault};
-ghost use Rattle.vt_model.specs.Simulation.{simulation_of};
-ghost use Rattle.vt_text.specs.Writing.{AppendsBeginning};
-ghost use Rattle.vt_world.specs.Answers.{PassesAtStart};
-ghost use Rattle.vt_tasks.specs.Replays.{GivesSteps, IsInputRefusal, IsReplayOf, AreRepliesOf, Writes, StopsReplay, ReplaysAsSet, EndsReplayAsSet};
-ghost use Rattle.vt_tasks.specs.Replying.{PutsReplies, StopsReplies, shown_of};
+ghost use Rattle.vt_model.specs.promise.Simulation.{simulation_of};
+ghost use Rattle.vt_text.specs.promise.Writing.{AppendsBeginning};
+ghost use Rattle.vt_world.specs.promise.Answers.{PassesAtStart};
+ghost use Rattle.vt_tasks.specs.promise.Replays.{GivesSteps, IsReplayOf, AreRepliesOf, Writes};
+ghost use Rattle.vt_tasks.specs.inside.Replays.{IsInputRefusal, StopsReplay, ReplaysAsSet, EndsReplayAsSet};
+ghost use Rattle.vt_tasks.specs.inside.Replying.{PutsReplies, StopsReplies, shown_of};
 
 use std::alloc::Global;
 use std::io::{Read, Write};

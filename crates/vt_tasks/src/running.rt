@@ -2,10 +2,10 @@
 
 ghost use Rattle.std.specs.Prelude.{◌≡◌, [], OnOk, IfOk, IfErr};
 ghost use Rattle.vt_key.specs.declared.fault.Fault.TheVariants.{Memory};
-ghost use Rattle.vt_model.specs.Simulation.{simulation_of};
-ghost use Rattle.vt_seq.specs.Standing.{IsAt};
-ghost use Rattle.vt_tasks.specs.Printed.{final_lines, finals_text};
-ghost use Rattle.vt_tasks.specs.Runs.{WritesWhole, StopsInOne};
+ghost use Rattle.vt_model.specs.promise.Simulation.{simulation_of};
+ghost use Rattle.vt_seq.specs.inside.Standing.{IsAt};
+ghost use Rattle.vt_tasks.specs.promise.Printed.{final_lines, finals_text};
+ghost use Rattle.vt_tasks.specs.inside.Runs.{WritesWhole, StopsInOne};
 
 use crate::counting::EventCount;
 use crate::printed::{first_of, put_finals, put_shown};

@@ -4,8 +4,9 @@ use Rattle.std.proofs.lemmas.Grind.{flat_map-append}
 use Rattle.std.proofs.lemmas.List.{take_more}
 use Rattle.vt_model.specs.declared.rows.Record.{Record}
 use Rattle.vt_text.specs.declared.version.Version.{Version}
-use Rattle.vt_text.specs.Records.{record_text, record_lines}
-use Rattle.vt_text.specs.Writing.{AppendsBeginning, AppendsAllButHeld, AppendsIntoHeld}
+use Rattle.vt_text.specs.promise.Records.{record_text, record_lines}
+use Rattle.vt_text.specs.promise.Writing.{AppendsBeginning}
+use Rattle.vt_text.specs.inside.Writing.{AppendsAllButHeld, AppendsIntoHeld}
 use Rattle.vt_text.proofs.TextLemmas.{made_room, pushed, stopped, lines_split}
 
 module _ (version : Version) where

@@ -9,7 +9,7 @@ use Rattle.std.specs.Fmt.{decimal}
 use Rattle.std.proofs.Common.{rules}
 use Rattle.std.proofs.lemmas.Fmt.{digits_decimal, digits_value-decimal, decimal_nonempty, length-decimal-le}
 use Rattle.std.proofs.lemmas.Str.Parse.{IsNumeralModel, numerals_by_fold}
-use Rattle.vt_text.specs.Numbers.{decimal_value, is_number, number_said}
+use Rattle.vt_text.specs.promise.Numbers.{decimal_value, is_number, number_said}
 
 abbrev more : ℕ → ℕ → ℕ
 more n digit = n * 10 + (digit - 48)

@@ -7,7 +7,8 @@ use Rattle.std.proofs.lemmas.Fmt.{length-decimal-le}
 use Rattle.std.proofs.lemmas.List.{take_all}
 use Rattle.std.proofs.lemmas.Grind.{flat_map-append}
 use Rattle.std.proofs.KnownBytes.{Appends-nil, Appends-trans}
-use Rattle.vt_text.specs.Writing.{AppendsBeginning, AppendsAllButHeld, AppendsIntoHeld}
+use Rattle.vt_text.specs.promise.Writing.{AppendsBeginning}
+use Rattle.vt_text.specs.inside.Writing.{AppendsAllButHeld, AppendsIntoHeld}
 
 pub length_most : (n : ℕ) → n < 2 ^ 64 → length (decimal n) ≤ 20
 length_most n h = length-decimal-le 20 n (omega arith) (omega arith) h

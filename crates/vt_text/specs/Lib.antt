@@ -1,3 +1,2 @@
-pub mod Numbers
-pub mod Records
-pub mod Writing
+pub mod promise
+pub mod inside

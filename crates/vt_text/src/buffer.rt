@@ -3,8 +3,9 @@
 ghost use Rattle.std.specs.Prelude.{◌≡◌, ◌+◌, ◌*◌, ◌≤◌, ◌<◌, ◌↔◌, ◌⊎◌, [], ◌∷◌, ◌++◌, length, drop, IsTrue, OnOk, IfErr, OnErr};
 ghost use Rattle.std.specs.Fmt.{decimal};
 ghost use Rattle.std.specs.Io.KnownBytes.{Appends};
-ghost use Rattle.vt_text.specs.Records.{record_text, tail_text};
-ghost use Rattle.vt_text.specs.Writing.{AppendsBeginning, AppendsAllButHeld, AppendsIntoHeld};
+ghost use Rattle.vt_text.specs.promise.Records.{record_text, tail_text};
+ghost use Rattle.vt_text.specs.promise.Writing.{AppendsBeginning};
+ghost use Rattle.vt_text.specs.inside.Writing.{AppendsAllButHeld, AppendsIntoHeld};
 
 use crate::{NUMBER_LEN, PRIORITY_LEN, Version, write_bytes};
 use itoa::write_digits;

@@ -2,7 +2,7 @@
 
 ghost use Rattle.std.specs.Prelude.{◌≡◌, ◌^◌, ◌<◌, ℕ, Some};
 ghost use Rattle.std.specs.Fmt.{decimal};
-ghost use Rattle.vt_text.specs.Numbers.{number_said};
+ghost use Rattle.vt_text.specs.promise.Numbers.{number_said};
 
 /// The most digits of a number.
 pub const NUMBER_LEN: usize = 20;

@@ -2,8 +2,9 @@
 
 ghost use Rattle.std.specs.Prelude.{◌≡◌, ◌++◌, OnOk, IfErr, OnErr};
 ghost use Rattle.std.specs.Io.KnownBytes.{Appends};
-ghost use Rattle.vt_text.specs.Records.{record_lines, records_text};
-ghost use Rattle.vt_text.specs.Writing.{AppendsAllButHeld, AppendsBeginning, AppendsIntoHeld};
+ghost use Rattle.vt_text.specs.promise.Records.{record_lines, records_text};
+ghost use Rattle.vt_text.specs.promise.Writing.{AppendsBeginning};
+ghost use Rattle.vt_text.specs.inside.Writing.{AppendsAllButHeld, AppendsIntoHeld};
 
 use crate::{RECORD_LEN, TextBuffer, Version};
 use std::io::Write;

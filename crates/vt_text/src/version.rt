@@ -1,7 +1,7 @@
 //! The versions of the text of records.
 
 ghost use Rattle.std.specs.Prelude.{◌≡◌};
-ghost use Rattle.vt_text.specs.Records.{first_line};
+ghost use Rattle.vt_text.specs.promise.Records.{first_line};
 
 /// A version of the text of records.
 #[derive(Debug, Clone, Copy, PartialEq, Eq)]

@@ -2,7 +2,7 @@
 
 ghost use Rattle.std.specs.Prelude.{◌≡◌, OnOk, IfErr, OnErr};
 ghost use Rattle.std.specs.Io.KnownBytes.{Appends};
-ghost use Rattle.vt_text.specs.Writing.{AppendsBeginning};
+ghost use Rattle.vt_text.specs.promise.Writing.{AppendsBeginning};
 
 use std::io::Write;
 use vt_key::Fault;

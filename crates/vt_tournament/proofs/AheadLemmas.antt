@@ -2,9 +2,10 @@
 use Rattle.std.proofs.Common.{◌≡◌, ℕ, ◌<◌, ◌⊎◌, inl, inr, Bool, true, false, not, ◌||◌, ◌&&◌, nat_lt, if◌then◌else◌, Option, Some, None, refl, sym, subst, ap, ◌∙◌, arith}
 use Rattle.std.proofs.lemmas.Bool.{lt-ltb, ltb-true, cases_Bool}
 use Rattle.vt_key.specs.declared.order.Rank.{Rank}
-use Rattle.vt_key.specs.Order.{RankBefore, rank_before}
+use Rattle.vt_key.specs.promise.Order.{rank_before}
+use Rattle.vt_key.specs.inside.Order.{RankBefore}
 use Rattle.vt_key.proofs.OrderLemmas.{rank-irreflexive, rank-transitive, rank-total, rank_before-true, before-rank_before, numbers-apart}
-use Rattle.vt_tournament.specs.Contest.{Contestant, is_ahead_by, is_ahead, winner_of}
+use Rattle.vt_tournament.specs.inside.Contest.{Contestant, is_ahead_by, is_ahead, winner_of}
 
 -- one contestant is ahead of another, as a fact
 abbrev pub Ahead : Option Rank → ℕ → Option Rank → ℕ → Type 0

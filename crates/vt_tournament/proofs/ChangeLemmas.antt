@@ -3,7 +3,7 @@ use Rattle.std.proofs.Common.{◌≡◌, ℕ, ◌+◌, ◌*◌, ◌-◌, ◌/◌
 use Rattle.std.proofs.lemmas.List.{get_or-set_other, length-set}
 use Rattle.std.proofs.lemmas.Bool.{cases_order, cases_lt}
 use Rattle.vt_key.specs.declared.order.Rank.{Rank}
-use Rattle.vt_tournament.specs.Contest.{Node, is_ahead, is_ahead_by, winner_of, contestant, node_of, Fits, inner_places, last_place, leaf_of, node, IsBelow, IsAbove, IsWinner, IsBest, AreWinners, WasTournamentOf, place_of_offset, IsChanged, IsDecided, IsCarried}
+use Rattle.vt_tournament.specs.inside.Contest.{Node, is_ahead, is_ahead_by, winner_of, contestant, node_of, Fits, inner_places, last_place, leaf_of, node, IsBelow, IsAbove, IsWinner, IsBest, AreWinners, WasTournamentOf, place_of_offset, IsChanged, IsDecided, IsCarried}
 use Rattle.vt_tournament.proofs.AheadLemmas.{NotBehind, not_behind-transitive, not_behind-same, behind-none}
 use Rattle.vt_tournament.proofs.NodeLemmas.{somebody, ranked-known}
 use Rattle.vt_tournament.proofs.PathLemmas.{above-self, above-low, above-next, above-transitive, between, upward}

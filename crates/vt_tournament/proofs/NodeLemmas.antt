@@ -3,11 +3,11 @@ use Rattle.std.proofs.Common.{◌≡◌, ℕ, ◌^◌, ◌/◌, ◌%◌, ◌<◌
 use Rattle.std.proofs.lemmas.Bool.{cases_order, lt-ltb, le-ltb, eq-eqb, eqb-true, cases_Bool}
 use Rattle.std.proofs.lemmas.List.{get_or_past}
 use Rattle.vt_key.specs.declared.order.Rank.{Rank}
-use Rattle.vt_key.specs.Order.{rank_before}
-use Rattle.vt_key.specs.Times.{at, priority_of}
+use Rattle.vt_key.specs.promise.Order.{rank_before}
+use Rattle.vt_key.specs.promise.Times.{at, priority_of}
 use Rattle.vt_key.proofs.OrderLemmas.{before-rank_before}
-use Rattle.vt_tournament.specs.Contest.{Node, Contestant, contestant, is_ahead, is_ahead_by, first_time, first_source, nobodys_number, node_number, node_of, winner_of, Fits, packed, unpacked, IsSmall}
-use Rattle.vt_tournament.specs.Fields.{node_in}
+use Rattle.vt_tournament.specs.inside.Contest.{Node, Contestant, contestant, is_ahead, is_ahead_by, first_time, first_source, nobodys_number, node_number, node_of, winner_of, Fits, packed, unpacked, IsSmall}
+use Rattle.vt_tournament.specs.inside.Fields.{node_in}
 use Rattle.vt_tournament.specs.declared.node.Node.TheInside.{Inside}
 use Rattle.vt_tournament.proofs.AheadLemmas.{not_behind-ahead, winner-first, winner-second}
 

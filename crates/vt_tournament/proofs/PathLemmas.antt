@@ -1,7 +1,7 @@
 -- The way from a place of the tree to the first.
 use Rattle.std.proofs.Common.{◌≡◌, ℕ, zero, suc, ◌+◌, ◌-◌, ◌*◌, ◌/◌, ◌<◌, ◌≤◌, ◌⊎◌, inl, inr, refl, sym, subst, ap, ◌∙◌, arith}
 use Rattle.std.proofs.lemmas.Bool.{cases_order}
-use Rattle.vt_tournament.specs.Contest.{node_above, IsAbove, IsBelow}
+use Rattle.vt_tournament.specs.inside.Contest.{node_above, IsAbove, IsBelow}
 
 node_above-low : (i m : ℕ) → node_above i m ≤ m - i
 node_above-low zero m = omega arith

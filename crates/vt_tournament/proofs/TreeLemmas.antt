@@ -5,9 +5,9 @@ use Rattle.std.proofs.lemmas.List.{get_or-set_same, get_or-set_other, get_or_def
 use Rattle.std.proofs.lemmas.Bool.{cases_order, cases_Bool}
 use Rattle.std.proofs.lemmas.Option.{slice_get-get_or, slice_get_past, same_Some}
 use Rattle.vt_key.specs.declared.order.Rank.{Rank}
-use Rattle.vt_key.specs.Order.{RankBefore}
-use Rattle.vt_tournament.specs.Contest.{Node, is_ahead, is_ahead_by, winner_of, contestant, nobodys_number, node_number, node_of, Fits, inner_places, last_place, leaf_of, node, IsBelow, beside, IsAbove, IsWinner, IsBest, AreWinners, IsTournamentOf}
-use Rattle.vt_tournament.specs.Least.{IsLeast}
+use Rattle.vt_key.specs.inside.Order.{RankBefore}
+use Rattle.vt_tournament.specs.inside.Contest.{Node, is_ahead, is_ahead_by, winner_of, contestant, nobodys_number, node_number, node_of, Fits, inner_places, last_place, leaf_of, node, IsBelow, beside, IsAbove, IsWinner, IsBest, AreWinners, IsTournamentOf}
+use Rattle.vt_tournament.specs.inside.Least.{IsLeast}
 use Rattle.vt_tournament.proofs.AheadLemmas.{NotBehind, winner-first, winner-second, not_behind-self, not_behind-ahead, not_behind-transitive, not_behind-rank, behind-none}
 use Rattle.vt_tournament.proofs.NodeLemmas.{nobodys_rank, node-own, number-one, somebody, ranked-known}
 use Rattle.vt_tournament.proofs.PathLemmas.{above-self, above-first, above-transitive, through, lowest}

@@ -1,3 +1,1 @@
-pub mod Contest
-pub mod Fields
-pub mod Least
+pub mod inside

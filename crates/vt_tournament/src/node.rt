@@ -1,8 +1,8 @@
 //! A node of the tree, and the better of two nodes.
 
 ghost use Rattle.std.specs.Prelude.{◌≡◌, ◌≤◌, ◌<◌, ◌^◌, ◌&&◌, not, nat_eq, nat_lt, if◌then◌else◌, length};
-ghost use Rattle.vt_key.specs.Times.{priority_of};
-ghost use Rattle.vt_tournament.specs.Contest.{is_ahead, winner_of, contestant, nobodys_number, node_of, packed, unpacked, IsSmall};
+ghost use Rattle.vt_key.specs.promise.Times.{priority_of};
+ghost use Rattle.vt_tournament.specs.inside.Contest.{is_ahead, winner_of, contestant, nobodys_number, node_of, packed, unpacked, IsSmall};
 
 use crate::contestants::Contestants;
 use std::marker::Model;
@@ -24,8 +24,8 @@ pub(crate) struct Node {
 
 impl Model for Node {
     ghost use Rattle.std.specs.Prelude.{◌<◌, ◌^◌};
-    ghost use Rattle.vt_tournament.specs.Contest.{Node};
-    ghost use Rattle.vt_tournament.specs.Fields.{node_in, ticks_in, rest_in, fields_again};
+    ghost use Rattle.vt_tournament.specs.inside.Contest.{Node};
+    ghost use Rattle.vt_tournament.specs.inside.Fields.{node_in, ticks_in, rest_in, fields_again};
 
     ghost Value = { Node };
 

@@ -3,8 +3,8 @@
 ghost use Rattle.std.specs.Prelude.{◌≡◌, ℕ, ◌+◌, ◌*◌, ◌/◌, ◌-◌, ◌<◌, ◌≤◌, ◌^◌, List, length, replicate, slice_get, slice_index_or, Option, Some, None, IfOk, IfErr, IfSome, IfNone};
 ghost use Rattle.vt_key.specs.declared.fault.Fault.TheVariants.{Memory};
 ghost use Rattle.vt_key.specs.declared.order.Rank.{Rank};
-ghost use Rattle.vt_tournament.specs.Contest.{contestant, node_of, inner_places, node, IsBelow, beside, place_of_offset, Fits, IsBest, AreWinners, IsTournamentOf, WasTournamentOf, IsDecided, IsCarried};
-ghost use Rattle.vt_tournament.specs.Least.{IsLeast};
+ghost use Rattle.vt_tournament.specs.inside.Contest.{contestant, node_of, inner_places, node, IsBelow, beside, place_of_offset, Fits, IsBest, AreWinners, IsTournamentOf, WasTournamentOf, IsDecided, IsCarried};
+ghost use Rattle.vt_tournament.specs.inside.Least.{IsLeast};
 
 use crate::contestants::Contestants;
 use crate::node::Node;
@@ -22,7 +22,7 @@ pub struct Tournament {
 
 impl Model for Tournament {
     ghost use Rattle.std.specs.Prelude.{List, length, ◌<◌};
-    ghost use Rattle.vt_tournament.specs.Contest.{Node};
+    ghost use Rattle.vt_tournament.specs.inside.Contest.{Node};
 
     ghost Value = { List Node };
 

@@ -2,17 +2,17 @@
 use Rattle.std.proofs.Common.{◌≡◌, ℕ, ◌+◌, ◌*◌, ◌^◌, ◌<◌, [], ◌∷◌, ◌++◌, Bool, true, false, not, ◌&&◌, nat_eq, if◌then◌else◌, Option, Some, None, is_none, refl, ap, arith}
 use Rattle.std.proofs.lemmas.Bool.{eqb-false}
 use Rattle.std.proofs.lemmas.List.Sums.{sum_by-cons, sum_by-append}
-use Rattle.vt_model.specs.Sends.{SendRequest}
-use Rattle.vt_model.specs.Counts.{one_more}
+use Rattle.vt_model.specs.promise.Sends.{SendRequest}
+use Rattle.vt_model.specs.promise.Counts.{one_more}
 use Rattle.vt_traffic.specs.declared.grid.Traffic.{Traffic}
 use Rattle.vt_traffic.specs.declared.junction.Road.{Road}
 use Rattle.vt_traffic.specs.declared.junction.Junction.{Junction}
 use Rattle.vt_traffic.specs.declared.junction.JunctionEvent.{JunctionEvent}
 use Rattle.vt_traffic.specs.declared.junction.JunctionEvent.TheVariants.{Arrive, Leave, Change}
-use Rattle.vt_stream.specs.Drawn.{scaled}
-use Rattle.vt_traffic.specs.Junction.{is_same_road, can_enter, with_car, entered, leave, entry, gone}
-use Rattle.vt_traffic.specs.Traffic.{change_after, after_event, own_sends, filled, traffic_start, traffic_forward}
-use Rattle.vt_traffic.specs.Cars.{cars_crossing, cars_at, cars_brought, cars_sent}
+use Rattle.vt_stream.specs.promise.Drawn.{scaled}
+use Rattle.vt_traffic.specs.inside.Junction.{is_same_road, can_enter, with_car, entered, leave, entry, gone}
+use Rattle.vt_traffic.specs.inside.Traffic.{change_after, after_event, own_sends, filled, traffic_start, traffic_forward}
+use Rattle.vt_traffic.specs.inside.Cars.{cars_crossing, cars_at, cars_brought, cars_sent}
 
 none-crossing : (k : Option Road) → is_none k ≡ true → cars_crossing k ≡ 0
 none-crossing None e = refl

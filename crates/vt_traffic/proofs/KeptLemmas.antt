@@ -3,22 +3,23 @@ use Rattle.std.proofs.Common.{◌≡◌, ℕ, zero, suc, ◌+◌, ◌*◌, ◌^�
 use Rattle.std.specs.List.{range_with_len}
 use Rattle.std.proofs.Math.Nat.{mul-le-mul}
 use Rattle.std.proofs.lemmas.List.Sums.{sum_by-append}
-use Rattle.vt_key.specs.Order.{key_same}
-use Rattle.vt_key.specs.Lists.{Among}
+use Rattle.vt_key.specs.promise.Order.{key_same}
+use Rattle.vt_key.specs.promise.Lists.{Among}
 use Rattle.vt_model.specs.declared.sending.Sent.{Sent}
 use Rattle.vt_model.specs.declared.settings.Config.{Config}
-use Rattle.vt_model.specs.Simulation.{Triple, words_at, start_of, fire_of, after}
-use Rattle.vt_model.specs.Sequential.{RunState, events_of, fired_after, opening, with_event, after_steps}
-use Rattle.vt_model.specs.Histories.{AreDistinct, IsLawful}
+use Rattle.vt_model.specs.promise.Simulation.{Triple, words_at, start_of, fire_of, after}
+use Rattle.vt_model.specs.promise.Sequential.{RunState, events_of, fired_after, opening, with_event, after_steps}
+use Rattle.vt_model.specs.promise.Histories.{IsLawful}
+use Rattle.vt_model.specs.inside.Histories.{AreDistinct}
 use Rattle.vt_model.proofs.LawLemmas.{lawful_of}
 use Rattle.vt_model.proofs.RunLemmas.{each_step, after_from, after-snoc, events_of-same, events_of-other, known_sent, lists_of, least-found, IsReached, reached, flat-next}
-use Rattle.vt_model.specs.Settings.{end_of}
+use Rattle.vt_model.specs.promise.Settings.{end_of}
 use Rattle.vt_traffic.specs.declared.grid.Traffic.{Traffic}
 use Rattle.vt_traffic.specs.declared.junction.Junction.{Junction}
 use Rattle.vt_traffic.specs.declared.junction.JunctionEvent.{JunctionEvent}
-use Rattle.vt_traffic.specs.Traffic.{traffic_start, traffic_forward, traffic_handlers}
-use Rattle.vt_traffic.specs.TrafficLaws.{start_within, forward_within}
-use Rattle.vt_traffic.specs.Cars.{cars_at, cars_brought, cars_sent_past, cars_coming, grid, sent_past_from, cars_on_grid, cars_on_roads, cars_past_end}
+use Rattle.vt_traffic.specs.inside.Traffic.{traffic_start, traffic_forward, traffic_handlers}
+use Rattle.vt_traffic.specs.inside.TrafficLaws.{start_within, forward_within}
+use Rattle.vt_traffic.specs.inside.Cars.{cars_at, cars_brought, cars_sent_past, cars_coming, grid, sent_past_from, cars_on_grid, cars_on_roads, cars_past_end}
 use Rattle.vt_traffic.proofs.CarLemmas.{start-cars, start-sent, forward-cars}
 use Rattle.vt_model.proofs.DistinctLemmas.{sum_by-without, distinct_pending}
 use Rattle.vt_model.proofs.SumLemmas.{sum_by-both, sum-next, sum_one, part-le}

@@ -1,13 +1,14 @@
 -- Steps of `Traffic`'s handlers.
 use Rattle.std.proofs.Common.{◌≡◌, ℕ, [], ◌∷◌, ◌++◌, refl, ap, ◌∙◌, Option, Some, None, append-nil}
-use Rattle.vt_model.specs.Sends.{RecordRequest, Outgoing, with_requests}
+use Rattle.vt_model.specs.promise.Sends.{RecordRequest}
+use Rattle.vt_model.specs.inside.Sends.{Outgoing, with_requests}
 use Rattle.vt_model.proofs.SendLemmas.{with_requests-append}
 use Rattle.vt_traffic.specs.declared.grid.Traffic.{Traffic}
 use Rattle.vt_traffic.specs.declared.junction.TheConstants.{WAITING}
 use Rattle.vt_traffic.specs.declared.junction.Junction.{Junction}
 use Rattle.vt_traffic.specs.declared.junction.JunctionEvent.{JunctionEvent}
-use Rattle.vt_traffic.specs.Junction.{waiting, entered, entry}
-use Rattle.vt_traffic.specs.Traffic.{after_event, own_sends, own_records, traffic_forward}
+use Rattle.vt_traffic.specs.inside.Junction.{waiting, entered, entry}
+use Rattle.vt_traffic.specs.inside.Traffic.{after_event, own_sends, own_records, traffic_forward}
 
 -- no road is what a crossing has where no car crosses
 pub none_left : {X : Type 0} (k : Option X) → ((x : X) → k ≡ Some x → ⊥) → k ≡ None

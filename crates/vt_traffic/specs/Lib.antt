@@ -1,5 +1,1 @@
-pub mod Options
-pub mod Junction
-pub mod Traffic
-pub mod Cars
-pub mod TrafficLaws
+pub mod inside

@@ -1,14 +1,14 @@
 //! Cars on a grid of one-way roads with signalled junctions.
 
 ghost use Rattle.std.specs.Prelude.{◌≡◌, ◌+◌, ◌<◌, ◌≤◌, [], ◌∷◌, length, None, Some, IfOk, IfErr, IsSome};
-ghost use Rattle.vt_key.specs.Faults.{option_named};
+ghost use Rattle.vt_key.specs.promise.Faults.{option_named};
 ghost use Rattle.vt_key.specs.declared.limits.TheConstants.{MAX_PROCESSES};
 ghost use Rattle.vt_model.specs.declared.limits.TheConstants.{MAX_DRAWS, MAX_SENDS, MAX_RECORDS};
-ghost use Rattle.vt_model.specs.Drawn.{drawn_in, stream_in, IsSameSource};
-ghost use Rattle.vt_stream.specs.Words.{word_of, moved};
-ghost use Rattle.vt_model.specs.Sends.{with_requests};
+ghost use Rattle.vt_model.specs.inside.Drawn.{drawn_in, stream_in, IsSameSource};
+ghost use Rattle.vt_stream.specs.inside.Words.{word_of, moved};
+ghost use Rattle.vt_model.specs.inside.Sends.{with_requests};
 ghost use Rattle.vt_traffic.specs.declared.grid.TheConstants.{MAX_CARS, MAX_GREEN, MAX_TRAVEL, MAX_TURNING};
-ghost use Rattle.vt_traffic.specs.Options.{first_bad_option};
+ghost use Rattle.vt_traffic.specs.inside.Options.{first_bad_option};
 
 use crate::junction::{Junction, JunctionEvent, PASSED, Road, WAITING};
 use vt_key::{Fault, MAX_PROCESSES, When};
@@ -69,8 +69,8 @@ pub struct Traffic {
 }
 
 impl Traffic {
-    ghost use Rattle.vt_traffic.specs.Traffic.{onward, next_junction, departure, departed};
-    ghost use Rattle.vt_traffic.specs.Junction.{gone};
+    ghost use Rattle.vt_traffic.specs.inside.Traffic.{onward, next_junction, departure, departed};
+    ghost use Rattle.vt_traffic.specs.inside.Junction.{gone};
 
     /// The model of a grid whose rows have `columns` junctions (1 to 65,536), with `cars` cars on each road of each
     /// junction (0 to 1,000), lights that change every `green` ticks (1 to 1,000,000), passages of at least `travel` ticks
@@ -179,9 +179,9 @@ impl EventModel for Traffic {
     type Kept = Option<Road>;
 
     ghost use Rattle.std.proofs.Common.{lit<, lit≤};
-    ghost use Rattle.vt_traffic.specs.Traffic.{traffic_handlers};
-    ghost use Rattle.vt_traffic.specs.Junction.{AreCounts};
-    ghost use Rattle.vt_traffic.specs.TrafficLaws.{start_within, forward_within, start_state, forward_state, undoes};
+    ghost use Rattle.vt_traffic.specs.inside.Traffic.{traffic_handlers};
+    ghost use Rattle.vt_traffic.specs.inside.Junction.{AreCounts};
+    ghost use Rattle.vt_traffic.specs.inside.TrafficLaws.{start_within, forward_within, start_state, forward_state, undoes};
 
     ghost handlers = { traffic_handlers };
 

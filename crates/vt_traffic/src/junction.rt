@@ -2,7 +2,7 @@
 
 ghost use Rattle.std.specs.Prelude.{◌≡◌, ◌+◌, ◌<◌, []};
 ghost use Rattle.vt_model.specs.declared.limits.TheConstants.{MAX_SENDS};
-ghost use Rattle.vt_model.specs.Sends.{with_requests};
+ghost use Rattle.vt_model.specs.inside.Sends.{with_requests};
 
 use vt_model::Out;
 
@@ -25,7 +25,7 @@ pub enum Road {
 }
 
 impl Road {
-    ghost use Rattle.vt_traffic.specs.Junction.{other_road};
+    ghost use Rattle.vt_traffic.specs.inside.Junction.{other_road};
 
     /// The road that crosses this one.
     pub fn other(self) -> Road
@@ -65,7 +65,7 @@ pub struct Junction {
 }
 
 impl Junction {
-    ghost use Rattle.vt_traffic.specs.Junction.{waiting, joined, unjoined, changed, can_enter, entered, entry};
+    ghost use Rattle.vt_traffic.specs.inside.Junction.{waiting, joined, unjoined, changed, can_enter, entered, entry};
 
     /// How many cars wait at the lights.
     pub fn waiting(&self) -> u64

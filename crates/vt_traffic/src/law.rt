@@ -1,10 +1,10 @@
 //! A law that holds of every run of the model.
 
 ghost use Rattle.std.specs.Prelude.{◌≡◌, ◌+◌, ◌*◌, ℕ};
-ghost use Rattle.vt_model.specs.Simulation.{simulation_of};
-ghost use Rattle.vt_model.specs.Sequential.{after_steps};
-ghost use Rattle.vt_traffic.specs.Traffic.{traffic_handlers};
-ghost use Rattle.vt_traffic.specs.Cars.{cars_on_grid, cars_on_roads, cars_past_end};
+ghost use Rattle.vt_model.specs.promise.Simulation.{simulation_of};
+ghost use Rattle.vt_model.specs.promise.Sequential.{after_steps};
+ghost use Rattle.vt_traffic.specs.inside.Traffic.{traffic_handlers};
+ghost use Rattle.vt_traffic.specs.inside.Cars.{cars_on_grid, cars_on_roads, cars_past_end};
 
 use crate::Traffic;
 use vt_model::Config;

@@ -3,28 +3,29 @@ use Rattle.std.proofs.Common.{◌≡◌, ℕ, ◌+◌, List, length, refl, sym, 
 use Rattle.std.proofs.Math.Logic.{∥∥₁_map}
 use Rattle.std.specs.Option.{option_map}
 use Rattle.std.proofs.lemmas.List.{length-set}
-use Rattle.vt_key.specs.Times.{Time}
+use Rattle.vt_key.specs.promise.Times.{Time}
 use Rattle.vt_key.specs.declared.letter.Mail.{Mail}
 use Rattle.vt_key.specs.declared.fault.Fault.{Fault}
 use Rattle.vt_model.specs.declared.settings.Config.{Config}
-use Rattle.vt_model.specs.Handler.{Handlers}
-use Rattle.vt_model.specs.Histories.{IsLawful}
-use Rattle.vt_model.specs.Simulation.{Simulation, simulation_of}
+use Rattle.vt_model.specs.promise.Handler.{Handlers}
+use Rattle.vt_model.specs.promise.Histories.{IsLawful}
+use Rattle.vt_model.specs.promise.Simulation.{Simulation, simulation_of}
 use Rattle.vt_steps.specs.declared.step.Step.{Step}
 use Rattle.vt_steps.specs.declared.step.Step.TheVariants.{Close}
 use Rattle.vt_steps.specs.declared.step.Reply.{Reply}
-use Rattle.vt_steps.specs.World.{Part, World, Board, Book}
-use Rattle.vt_steps.specs.Next.{next, with_part, reached}
-use Rattle.vt_steps.specs.Cells.{CellName, inbox_of, board_cell, book_cell, Cell, in_inbox, on_board, in_book, content, with_content, worker_of, cell_of, Acted, act, put_back}
-use Rattle.vt_steps.specs.Laws.{IsAny}
-use Rattle.vt_steps.specs.StandsFor.{GoesOn}
-use Rattle.vt_kernel.specs.Held.{HeldWorker, AllOwnMail}
-use Rattle.vt_kernel.specs.Refusals.{PassesIn, PassesLimit, IsStepRefusal}
+use Rattle.vt_steps.specs.promise.World.{Part, World, Board, Book}
+use Rattle.vt_steps.specs.promise.Next.{next, with_part, reached}
+use Rattle.vt_steps.specs.promise.Cells.{worker_of}
+use Rattle.vt_steps.specs.inside.Cells.{CellName, inbox_of, board_cell, book_cell, Cell, in_inbox, on_board, in_book, content, with_content, cell_of, Acted, act, put_back}
+use Rattle.vt_steps.specs.inside.Laws.{IsAny}
+use Rattle.vt_steps.specs.inside.StandsFor.{GoesOn}
+use Rattle.vt_kernel.specs.inside.Held.{HeldWorker, AllOwnMail}
+use Rattle.vt_kernel.specs.promise.Refusals.{PassesIn, PassesLimit, IsStepRefusal}
 use Rattle.vt_kernel.proofs.SettlingLemmas.{put-there}
-use Rattle.vt_cells.specs.Calls.{IsCellStepOf, rounds_of, AreOfOneWorld}
+use Rattle.vt_cells.specs.inside.Calls.{IsCellStepOf, rounds_of, AreOfOneWorld}
 use Rattle.vt_cells.proofs.BookSteps.{close-step}
 use Rattle.vt_cells.proofs.WorldLemmas.{next-put_back, limit-there, refused-there}
-use Rattle.vt_world.specs.Held.{HeldWorld, held_world, world_memory, StandsForWorld, IsHeldStepOf, AreInboxes, IsWorldInside}
+use Rattle.vt_world.specs.inside.Held.{HeldWorld, held_world, world_memory, StandsForWorld, IsHeldStepOf, AreInboxes, IsWorldInside}
 use Rattle.vt_world.proofs.WorldLemmas.{found, part-changed}
 use Rattle.vt_world.proofs.WorldSteps.{who, goes}
 use Rattle.vt_world.proofs.StepLemmas.{step-done, step-refused, inside-stepped, inside-same}

@@ -6,21 +6,21 @@ use Rattle.std.proofs.Math.Logic.{∥∥₁_elim}
 use Rattle.std.proofs.Props.{props}
 use Rattle.std.proofs.lemmas.Bool.{eq-eqb}
 use Rattle.std.proofs.Math.Nat.{div-add-mod'}
-use Rattle.vt_key.specs.Times.{Time}
+use Rattle.vt_key.specs.promise.Times.{Time}
 use Rattle.vt_model.specs.declared.settings.Config.{Config}
-use Rattle.vt_model.specs.Handler.{Handlers}
-use Rattle.vt_model.specs.Histories.{IsLawful}
-use Rattle.vt_model.specs.Simulation.{Triple, simulation_of, after}
-use Rattle.vt_model.specs.Sequential.{events_of, whole_run}
-use Rattle.vt_steps.specs.Next.{reached}
-use Rattle.vt_steps.specs.World.{Book, process_at}
-use Rattle.vt_steps.specs.StandsFor.{StandsForProcess}
+use Rattle.vt_model.specs.promise.Handler.{Handlers}
+use Rattle.vt_model.specs.promise.Histories.{IsLawful}
+use Rattle.vt_model.specs.promise.Simulation.{Triple, simulation_of, after}
+use Rattle.vt_model.specs.promise.Sequential.{events_of, whole_run}
+use Rattle.vt_steps.specs.promise.Next.{reached}
+use Rattle.vt_steps.specs.promise.World.{Book, process_at}
+use Rattle.vt_steps.specs.inside.StandsFor.{StandsForProcess}
 use Rattle.vt_steps.proofs.book.ReachedBooks.{closed-finals}
 use Rattle.vt_steps.proofs.steps.MemoryLemmas.{is_where}
-use Rattle.vt_lp.specs.Held.{HeldProcess, process_memory}
-use Rattle.vt_kernel.specs.Held.{HeldWorker, part_memory, process_of}
+use Rattle.vt_lp.specs.inside.Held.{HeldProcess, process_memory}
+use Rattle.vt_kernel.specs.inside.Held.{HeldWorker, part_memory, process_of}
 use Rattle.vt_kernel.proofs.ProcessLemmas.{get-map_of, stands-at as process-stands-at}
-use Rattle.vt_world.specs.Held.{HeldWorld, IsReached, IsWorldInside}
+use Rattle.vt_world.specs.inside.Held.{HeldWorld, IsReached, IsWorldInside}
 use Rattle.vt_world.proofs.WorldLemmas.{stands-at, worker-at}
 
 -- what is some comes of something

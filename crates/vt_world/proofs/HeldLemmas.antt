@@ -2,16 +2,16 @@
 use Rattle.std.proofs.Common.{◌≡◌, ℕ, ◌+◌, List, [], ◌∷◌, ◌++◌, map, refl, ◌∙◌, ap}
 use Rattle.std.specs.List.{flat_map}
 use Rattle.vt_key.specs.declared.letter.Mail.{Mail}
-use Rattle.vt_model.specs.Handler.{Handlers}
-use Rattle.vt_model.specs.Simulation.{Simulation, simulation_of}
-use Rattle.vt_model.specs.Settings.{end_of}
-use Rattle.vt_steps.specs.Letters.{least_time}
-use Rattle.vt_steps.specs.World.{LogicalProcess, Part, World, letters_in, least}
-use Rattle.vt_steps.specs.StandsFor.{StandForProcesses, StandForParts}
-use Rattle.vt_lp.specs.Held.{HeldProcess, process_memory}
-use Rattle.vt_kernel.specs.Held.{HeldWorker, part_memory}
-use Rattle.vt_kernel.specs.Guards.{held_letters}
-use Rattle.vt_world.specs.Held.{HeldWorld, StandsForWorld, least_held}
+use Rattle.vt_model.specs.promise.Handler.{Handlers}
+use Rattle.vt_model.specs.promise.Simulation.{Simulation, simulation_of}
+use Rattle.vt_model.specs.promise.Settings.{end_of}
+use Rattle.vt_steps.specs.promise.Letters.{least_time}
+use Rattle.vt_steps.specs.promise.World.{LogicalProcess, Part, World, letters_in, least}
+use Rattle.vt_steps.specs.inside.StandsFor.{StandForProcesses, StandForParts}
+use Rattle.vt_lp.specs.inside.Held.{HeldProcess, process_memory}
+use Rattle.vt_kernel.specs.inside.Held.{HeldWorker, part_memory}
+use Rattle.vt_kernel.specs.inside.Guards.{held_letters}
+use Rattle.vt_world.specs.inside.Held.{HeldWorld, StandsForWorld, least_held}
 
 module _ {S P K : Type 0} (handlers : Handlers S P K) (sim : Simulation S P) where
   -- the letters at processes are those at the processes that they stand for

@@ -3,15 +3,15 @@ use Rattle.std.proofs.Common.{◌≡◌, ℕ, ◌+◌, List, [], ◌∷◌, ◌+
 use Rattle.std.specs.List.{All, flat_map}
 use Rattle.std.proofs.lemmas.List.{map-append}
 use Rattle.std.proofs.lemmas.List.Elements.{All-nil, All-cons}
-use Rattle.vt_key.specs.Times.{Time, earlier}
+use Rattle.vt_key.specs.promise.Times.{Time, earlier}
 use Rattle.vt_key.specs.declared.letter.Letter.{Letter}
 use Rattle.vt_key.specs.declared.letter.Mail.{Mail}
 use Rattle.vt_model.specs.declared.settings.Config.{Config}
-use Rattle.vt_model.specs.Settings.{end_of}
-use Rattle.vt_steps.specs.Letters.{least_time}
-use Rattle.vt_kernel.specs.Held.{HeldWorker}
+use Rattle.vt_model.specs.promise.Settings.{end_of}
+use Rattle.vt_steps.specs.promise.Letters.{least_time}
+use Rattle.vt_kernel.specs.inside.Held.{HeldWorker}
 use Rattle.vt_kernel.proofs.TimeLemmas.{earlier_assoc, earlier_comm, least_time-append}
-use Rattle.vt_world.specs.Held.{AreWorkers}
+use Rattle.vt_world.specs.inside.Held.{AreWorkers}
 
 module _ {P : Type 0} (end : Time) where
   -- the letters of one more

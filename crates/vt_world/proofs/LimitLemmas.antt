@@ -1,17 +1,17 @@
 -- A step that is done passes no counter's limit: its worker and the board are within them afterwards.
 use Rattle.std.proofs.Common.{◌≡◌, ℕ, ◌%◌, List, sym, ap, subst, Some, slice_get, slice_set}
-use Rattle.vt_key.specs.Times.{Time}
+use Rattle.vt_key.specs.promise.Times.{Time}
 use Rattle.vt_key.specs.declared.letter.Mail.{Mail}
 use Rattle.vt_model.specs.declared.settings.Config.{Config}
-use Rattle.vt_model.specs.Handler.{Handlers}
-use Rattle.vt_model.specs.Simulation.{simulation_of}
+use Rattle.vt_model.specs.promise.Handler.{Handlers}
+use Rattle.vt_model.specs.promise.Simulation.{simulation_of}
 use Rattle.vt_steps.specs.declared.step.Step.TheVariants.{Execute}
-use Rattle.vt_steps.specs.World.{Part, World}
-use Rattle.vt_kernel.specs.Held.{HeldWorker, StandsFor as WorkerStandsFor}
-use Rattle.vt_kernel.specs.Refusals.{PassesIn, PassesLimit}
+use Rattle.vt_steps.specs.promise.World.{Part, World}
+use Rattle.vt_kernel.specs.inside.Held.{HeldWorker, StandsFor as WorkerStandsFor}
+use Rattle.vt_kernel.specs.promise.Refusals.{PassesIn, PassesLimit}
 use Rattle.vt_kernel.proofs.LimitLemmas.{passes-part}
 use Rattle.vt_steps.proofs.lists.Places.{get-put_same}
-use Rattle.vt_world.specs.Held.{HeldWorld, StandsForWorld, IsWorldInside}
+use Rattle.vt_world.specs.inside.Held.{HeldWorld, StandsForWorld, IsWorldInside}
 use Rattle.vt_world.proofs.WorldLemmas.{IsSame, found}
 use Rattle.vt_world.proofs.WorldSteps.{who}
 use Rattle.vt_world.proofs.Places.{are-workers}

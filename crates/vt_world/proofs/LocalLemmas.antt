@@ -2,26 +2,26 @@
 use Rattle.std.proofs.Common.{◌≡◌, ℕ, ◌%◌, inl, inr, refl, sym, ◌∙◌, ap, subst, Option, Some, None, Result, Ok, Err, IsErrAnd, slice_get, slice_set}
 use Rattle.std.proofs.Math.Logic.{∥∥₁_map}
 use Rattle.std.specs.Option.{option_map}
-use Rattle.vt_key.specs.Times.{Time}
+use Rattle.vt_key.specs.promise.Times.{Time}
 use Rattle.vt_key.specs.declared.fault.Fault.{Fault}
 use Rattle.vt_key.specs.declared.fault.Fault.TheVariants.{NotLawful}
 use Rattle.vt_model.specs.declared.settings.Config.{Config}
-use Rattle.vt_model.specs.Handler.{Handlers}
-use Rattle.vt_model.specs.Simulation.{Simulation, simulation_of}
+use Rattle.vt_model.specs.promise.Handler.{Handlers}
+use Rattle.vt_model.specs.promise.Simulation.{Simulation, simulation_of}
 use Rattle.vt_steps.specs.declared.step.Step.{Step}
 use Rattle.vt_steps.specs.declared.step.Step.TheVariants.{Execute, Accept}
 use Rattle.vt_steps.specs.declared.step.Reply.{Reply}
 use Rattle.vt_steps.specs.declared.step.Reply.TheVariants.{Done}
-use Rattle.vt_steps.specs.World.{Part, World}
-use Rattle.vt_steps.specs.Next.{Outcome, next, reached, replied, with_part, done_or_refused}
-use Rattle.vt_steps.specs.StandsFor.{GoesOn}
-use Rattle.vt_steps.specs.Cells.{local_step}
-use Rattle.vt_kernel.specs.Held.{HeldWorker, StandsFor as WorkerStandsFor}
-use Rattle.vt_kernel.specs.Guards.{IsDone, IsExecuteRefusal, IsAcceptRefusal}
-use Rattle.vt_kernel.specs.Refusals.{IsStepRefusal, PassesIn, PassesLimit}
+use Rattle.vt_steps.specs.promise.World.{Part, World}
+use Rattle.vt_steps.specs.promise.Next.{Outcome, next, reached, replied, with_part, done_or_refused}
+use Rattle.vt_steps.specs.inside.StandsFor.{GoesOn}
+use Rattle.vt_steps.specs.inside.Cells.{local_step}
+use Rattle.vt_kernel.specs.inside.Held.{HeldWorker, StandsFor as WorkerStandsFor}
+use Rattle.vt_kernel.specs.inside.Guards.{IsDone, IsExecuteRefusal, IsAcceptRefusal}
+use Rattle.vt_kernel.specs.promise.Refusals.{IsStepRefusal, PassesIn, PassesLimit}
 use Rattle.vt_kernel.proofs.LimitLemmas.{passes-none, passes-world, passes-part}
 use Rattle.vt_steps.proofs.lists.Places.{get-put_same}
-use Rattle.vt_world.specs.Held.{HeldWorld, world_memory, StandsForWorld, IsReached, IsHeldStepOf, IsWorldInside}
+use Rattle.vt_world.specs.inside.Held.{HeldWorld, world_memory, StandsForWorld, IsReached, IsHeldStepOf, IsWorldInside}
 use Rattle.vt_world.proofs.WorldLemmas.{IsSame, IsLocalAt, IsFound, found, next-locally, local-done, local-refused}
 use Rattle.vt_world.proofs.WorldSteps.{who}
 use Rattle.vt_world.proofs.StepLemmas.{step-done, step-unlawful, inside-same}

@@ -4,15 +4,15 @@ use Rattle.std.specs.List.{range_with_len}
 use Rattle.std.proofs.lemmas.List.Elements.{All-nil}
 use Rattle.vt_key.specs.declared.letter.Mail.{Mail}
 use Rattle.vt_model.specs.declared.settings.Config.{Config}
-use Rattle.vt_model.specs.Handler.{Handlers}
-use Rattle.vt_model.specs.Simulation.{Simulation, simulation_of}
-use Rattle.vt_model.specs.Settings.{end_of}
-use Rattle.vt_steps.specs.World.{Part, Board, Book, opening_part, opening_board, opening_book, opening_world}
+use Rattle.vt_model.specs.promise.Handler.{Handlers}
+use Rattle.vt_model.specs.promise.Simulation.{Simulation, simulation_of}
+use Rattle.vt_model.specs.promise.Settings.{end_of}
+use Rattle.vt_steps.specs.promise.World.{Part, Board, Book, opening_part, opening_board, opening_book, opening_world}
 use Rattle.vt_steps.specs.declared.step.Step.{Step}
-use Rattle.vt_steps.specs.Next.{run, reached}
-use Rattle.vt_steps.specs.StandsFor.{StandsForPart, StandForParts}
-use Rattle.vt_kernel.specs.Held.{HeldWorker, part_memory, IsOwnMail}
-use Rattle.vt_world.specs.Held.{held_world, StandsForWorld, IsReached, AreWorkers, AreInboxes}
+use Rattle.vt_steps.specs.promise.Next.{run, reached}
+use Rattle.vt_steps.specs.inside.StandsFor.{StandsForPart, StandForParts}
+use Rattle.vt_kernel.specs.inside.Held.{HeldWorker, part_memory, IsOwnMail}
+use Rattle.vt_world.specs.inside.Held.{held_world, StandsForWorld, IsReached, AreWorkers, AreInboxes}
 
 module _ {S P K : Type 0} where
   -- one more worker

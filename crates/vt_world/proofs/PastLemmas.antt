@@ -3,26 +3,26 @@ use Rattle.std.proofs.Common.{◌≡◌, ℕ, ◌/◌, ◌%◌, ◌<◌, ◌≤�
 use Rattle.std.specs.Option.{option_map}
 use Rattle.std.proofs.lemmas.List.{map-append}
 use Rattle.std.proofs.lemmas.List.Elements.{filter-append}
-use Rattle.vt_key.specs.Times.{Time, TimeAtMost, time_before}
+use Rattle.vt_key.specs.promise.Times.{Time, TimeAtMost, time_before}
 use Rattle.vt_key.specs.declared.letter.Event.{Event}
 use Rattle.vt_model.specs.declared.sending.Sent.{Sent}
 use Rattle.vt_model.specs.declared.settings.Config.{Config}
-use Rattle.vt_model.specs.Handler.{Handlers}
-use Rattle.vt_model.specs.Histories.{IsLawful}
-use Rattle.vt_model.specs.Sequential.{events_before}
-use Rattle.vt_model.specs.Simulation.{Simulation, simulation_of}
+use Rattle.vt_model.specs.promise.Handler.{Handlers}
+use Rattle.vt_model.specs.promise.Histories.{IsLawful}
+use Rattle.vt_model.specs.promise.Sequential.{events_before}
+use Rattle.vt_model.specs.promise.Simulation.{Simulation, simulation_of}
 use Rattle.vt_steps.specs.declared.step.Step.{Step}
-use Rattle.vt_steps.specs.Letters.{unstamped}
-use Rattle.vt_steps.specs.World.{Entry, World, entry_events, least}
-use Rattle.vt_steps.specs.Next.{reached}
-use Rattle.vt_steps.specs.StandsFor.{entry_of}
+use Rattle.vt_steps.specs.promise.Letters.{unstamped}
+use Rattle.vt_steps.specs.promise.World.{Entry, World, entry_events, least}
+use Rattle.vt_steps.specs.promise.Next.{reached}
+use Rattle.vt_steps.specs.inside.StandsFor.{entry_of}
 use Rattle.vt_steps.proofs.book.ReachedBooks.{reached-accounted}
-use Rattle.vt_lp.specs.Held.{HeldProcess, executed_events, process_memory, remembered}
+use Rattle.vt_lp.specs.inside.Held.{HeldProcess, executed_events, process_memory, remembered}
 use Rattle.vt_past.specs.declared.event.PastEvent.{PastEvent}
-use Rattle.vt_kernel.specs.Held.{HeldWorker, IsProcessOf, process_of}
+use Rattle.vt_kernel.specs.inside.Held.{HeldWorker, IsProcessOf, process_of}
 use Rattle.vt_kernel.proofs.ProcessLemmas.{get-map_of, stands-at}
-use Rattle.vt_world.specs.Held.{HeldWorld, StandsForWorld, IsWorldInside}
-use Rattle.vt_world.specs.Answers.{IsPastIn, EndsSequential}
+use Rattle.vt_world.specs.inside.Held.{HeldWorld, StandsForWorld, IsWorldInside}
+use Rattle.vt_world.specs.promise.Answers.{IsPastIn, EndsSequential}
 use Rattle.vt_world.proofs.WorldLemmas.{found}
 use Rattle.vt_world.proofs.WorldSteps.{who}
 use Rattle.vt_world.proofs.Places.{is-own}

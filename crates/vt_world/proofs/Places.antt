@@ -2,18 +2,18 @@
 use Rattle.std.proofs.Common.{◌≡◌, ℕ, zero, suc, ◌+◌, ◌%◌, ◌<◌, List, [], ◌∷◌, length, refl, sym, ◌∙◌, ap, subst, arith, Some, None, Ok, slice_get, slice_set, slice_index_or}
 use Rattle.std.proofs.lemmas.List.{length-set}
 use Rattle.std.proofs.lemmas.Option.{slice_get_read}
-use Rattle.vt_key.specs.Times.{Time}
+use Rattle.vt_key.specs.promise.Times.{Time}
 use Rattle.vt_key.specs.declared.letter.Mail.{Mail}
 use Rattle.vt_model.specs.declared.settings.Config.{Config}
-use Rattle.vt_model.specs.Handler.{Handlers}
-use Rattle.vt_model.specs.Simulation.{simulation_of}
+use Rattle.vt_model.specs.promise.Handler.{Handlers}
+use Rattle.vt_model.specs.promise.Simulation.{simulation_of}
 use Rattle.vt_steps.specs.declared.step.Step.{Step}
 use Rattle.vt_steps.specs.declared.step.Reply.{Reply}
-use Rattle.vt_steps.specs.World.{Board, Book}
-use Rattle.vt_steps.specs.StandsFor.{GoesOn}
-use Rattle.vt_kernel.specs.Held.{HeldWorker, AllOwnMail, IsProcessOf}
+use Rattle.vt_steps.specs.promise.World.{Board, Book}
+use Rattle.vt_steps.specs.inside.StandsFor.{GoesOn}
+use Rattle.vt_kernel.specs.inside.Held.{HeldWorker, AllOwnMail, IsProcessOf}
 use Rattle.vt_kernel.proofs.SettlingLemmas.{put-there}
-use Rattle.vt_world.specs.Held.{HeldWorld, held_world, world_memory, AreWorkers, AreInboxes, IsWorldInside}
+use Rattle.vt_world.specs.inside.Held.{HeldWorld, held_world, world_memory, AreWorkers, AreInboxes, IsWorldInside}
 use Rattle.vt_world.proofs.WorldLemmas.{IsSame, worker-at, workers-changed}
 use Rattle.vt_world.proofs.WorldSteps.{who}
 use Rattle.vt_world.proofs.StepLemmas.{inside-stepped}

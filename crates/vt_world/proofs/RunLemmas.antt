@@ -4,15 +4,16 @@ use Rattle.std.proofs.lemmas.List.Sums.{sum_by-append}
 use Rattle.std.specs.Result.{is_err}
 use Rattle.vt_key.specs.declared.fault.Fault.{Fault}
 use Rattle.vt_key.specs.declared.fault.Fault.TheVariants.{Memory, NotLawful, Closed, Exhausted}
-use Rattle.vt_model.specs.Simulation.{Simulation}
+use Rattle.vt_model.specs.promise.Simulation.{Simulation}
 use Rattle.vt_steps.specs.declared.step.Step.{Step}
 use Rattle.vt_steps.specs.declared.step.Reply.{Reply}
-use Rattle.vt_steps.specs.World.{World}
-use Rattle.vt_steps.specs.Next.{next, run, answers}
+use Rattle.vt_steps.specs.promise.World.{World}
+use Rattle.vt_steps.specs.promise.Next.{next, run, answers}
 use Rattle.vt_steps.proofs.steps.MemoryLemmas.{run-append}
 use Rattle.vt_steps.proofs.steps.Refusals.{refusals as refusal-laws}
-use Rattle.vt_kernel.specs.Refusals.{PassesLimit, IsSpent, IsStepRefusal}
-use Rattle.vt_world.specs.Calls.{IsStepOf, AreWithinLimits, IsAnsweredBy, refusals}
+use Rattle.vt_kernel.specs.promise.Refusals.{PassesLimit, IsSpent, IsStepRefusal}
+use Rattle.vt_world.specs.promise.Calls.{IsStepOf, AreWithinLimits, refusals}
+use Rattle.vt_world.specs.inside.Calls.{IsAnsweredBy}
 
 module _ {S P : Type 0} (sim : Simulation S P) where
   -- no step

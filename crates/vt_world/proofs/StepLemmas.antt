@@ -1,20 +1,20 @@
 -- What a call that does a step of a world owes: what it answers and leaves, and that the world keeps to itself.
 use Rattle.std.proofs.Common.{◌≡◌, inl, List, length, refl, sym, ◌∙◌, ap, subst, Result, Ok, Err, IsErrAnd}
 use Rattle.std.proofs.Math.Logic.{∥∥₁_map}
-use Rattle.vt_key.specs.Times.{Time}
+use Rattle.vt_key.specs.promise.Times.{Time}
 use Rattle.vt_key.specs.declared.letter.Mail.{Mail}
 use Rattle.vt_key.specs.declared.fault.Fault.{Fault}
-use Rattle.vt_model.specs.Handler.{Handlers}
-use Rattle.vt_model.specs.Simulation.{simulation_of}
+use Rattle.vt_model.specs.promise.Handler.{Handlers}
+use Rattle.vt_model.specs.promise.Simulation.{simulation_of}
 use Rattle.vt_steps.specs.declared.step.Step.{Step}
 use Rattle.vt_steps.specs.declared.step.Reply.{Reply}
-use Rattle.vt_steps.specs.World.{World, Board, Book}
-use Rattle.vt_steps.specs.Next.{next}
-use Rattle.vt_steps.specs.StandsFor.{GoesOn}
+use Rattle.vt_steps.specs.promise.World.{World, Board, Book}
+use Rattle.vt_steps.specs.promise.Next.{next}
+use Rattle.vt_steps.specs.inside.StandsFor.{GoesOn}
 use Rattle.vt_steps.proofs.steps.MemoryLemmas.{still_reached}
-use Rattle.vt_kernel.specs.Held.{HeldWorker}
-use Rattle.vt_kernel.specs.Refusals.{PassesLimit, IsStepRefusal}
-use Rattle.vt_world.specs.Held.{HeldWorld, held_world, world_memory, StandsForWorld, IsHeldStepOf, AreWorkers, AreInboxes, IsWorldInside}
+use Rattle.vt_kernel.specs.inside.Held.{HeldWorker}
+use Rattle.vt_kernel.specs.promise.Refusals.{PassesLimit, IsStepRefusal}
+use Rattle.vt_world.specs.inside.Held.{HeldWorld, held_world, world_memory, StandsForWorld, IsHeldStepOf, AreWorkers, AreInboxes, IsWorldInside}
 
 module _ {M S P K : Type 0} (meaning : M → Handlers S P K) {held seen : HeldWorld M S P K} (seen_is : held ≡ seen) where
   -- a step is done

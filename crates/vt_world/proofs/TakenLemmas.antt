@@ -2,26 +2,26 @@
 use Rattle.std.proofs.Common.{◌≡◌, ℕ, List, [], ◌∷◌, ◌++◌, inl, inr, refl, sym, ◌∙◌, ap, subst, Result, Ok, Err}
 use Rattle.std.specs.Prelude.{IsTrue}
 use Rattle.std.proofs.Math.Nat.{le_refl}
-use Rattle.vt_key.specs.Times.{TimeAtMost}
+use Rattle.vt_key.specs.promise.Times.{TimeAtMost}
 use Rattle.vt_key.specs.declared.fault.Fault.{Fault}
 use Rattle.vt_key.specs.declared.fault.Fault.TheVariants.{Closed}
 use Rattle.vt_model.specs.declared.settings.Config.{Config}
-use Rattle.vt_model.specs.Handler.{Handlers}
-use Rattle.vt_model.specs.Histories.{IsLawful}
-use Rattle.vt_model.specs.Simulation.{Simulation, simulation_of}
-use Rattle.vt_model.specs.Settings.{end_of}
+use Rattle.vt_model.specs.promise.Handler.{Handlers}
+use Rattle.vt_model.specs.promise.Histories.{IsLawful}
+use Rattle.vt_model.specs.promise.Simulation.{Simulation, simulation_of}
+use Rattle.vt_model.specs.promise.Settings.{end_of}
 use Rattle.vt_steps.specs.declared.step.Step.{Step}
 use Rattle.vt_steps.specs.declared.step.Reply.{Reply}
-use Rattle.vt_steps.specs.World.{World, book_floor, opening_world}
-use Rattle.vt_steps.specs.Next.{next, run, reached}
-use Rattle.vt_steps.specs.StandsFor.{StandsFor}
-use Rattle.vt_steps.specs.Cells.{cell_of}
+use Rattle.vt_steps.specs.promise.World.{World, book_floor, opening_world}
+use Rattle.vt_steps.specs.promise.Next.{next, run, reached}
+use Rattle.vt_steps.specs.inside.StandsFor.{StandsFor}
+use Rattle.vt_steps.specs.inside.Cells.{cell_of}
 use Rattle.vt_steps.proofs.steps.MemoryLemmas.{run-append}
 use Rattle.vt_steps.proofs.steps.Refusals.{refusals as refusal-laws}
 use Rattle.vt_steps.proofs.book.ReachedBooks.{closed-stays, reached-falls}
-use Rattle.vt_kernel.specs.Refusals.{PassesLimit}
-use Rattle.vt_world.specs.Held.{HeldWorld, world_memory, StandsForWorld, IsHeldStepOf}
-use Rattle.vt_world.specs.Calls.{RunWorld, IsOfBook, IsStepOf}
+use Rattle.vt_kernel.specs.promise.Refusals.{PassesLimit}
+use Rattle.vt_world.specs.inside.Held.{HeldWorld, world_memory, StandsForWorld, IsHeldStepOf}
+use Rattle.vt_world.specs.promise.Calls.{RunWorld, IsOfBook, IsStepOf}
 
 -- ---- a closed book
 

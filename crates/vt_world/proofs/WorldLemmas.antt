@@ -2,22 +2,23 @@
 use Rattle.std.proofs.Common.{◌≡◌, ℕ, zero, suc, ◌+◌, inl, inr, Bool, List, [], ◌∷◌, map, refl, sym, ◌∙◌, ap, subst, arith, Some, None, Ok, Err, slice_get, slice_set, if◌then◌else◌}
 use Rattle.std.specs.Option.{option_and_then, option_map}
 use Rattle.std.proofs.lemmas.Bool.Decides.{eqb_tells}
-use Rattle.vt_key.specs.Times.{Time}
+use Rattle.vt_key.specs.promise.Times.{Time}
 use Rattle.vt_key.specs.declared.fault.Fault.TheVariants.{NotLawful}
 use Rattle.vt_model.specs.declared.settings.Config.{Config}
-use Rattle.vt_model.specs.Handler.{Handlers}
-use Rattle.vt_model.specs.Simulation.{Simulation, simulation_of}
+use Rattle.vt_model.specs.promise.Handler.{Handlers}
+use Rattle.vt_model.specs.promise.Simulation.{Simulation, simulation_of}
 use Rattle.vt_steps.specs.declared.step.Step.{Step}
 use Rattle.vt_steps.specs.declared.step.Reply.TheVariants.{Done}
-use Rattle.vt_steps.specs.World.{Part, World}
-use Rattle.vt_steps.specs.Actions.{Action, on_part, at_inbox, at_board, at_book, on_book, action_of}
-use Rattle.vt_steps.specs.Next.{Outcome, done_in, next, with_part, done_or_refused, locally}
-use Rattle.vt_steps.specs.StandsFor.{PartMemory, StandsForPart, StandForParts, GoesOn}
-use Rattle.vt_steps.specs.Cells.{action_worker, local_rule, if_own, local_step}
-use Rattle.vt_kernel.specs.Held.{HeldWorker, part_memory, StandsFor as WorkerStandsFor}
-use Rattle.vt_kernel.specs.Guards.{IsDone}
+use Rattle.vt_steps.specs.promise.World.{Part, World}
+use Rattle.vt_steps.specs.promise.Actions.{Action, on_part, at_inbox, at_board, at_book, on_book, action_of}
+use Rattle.vt_steps.specs.promise.Next.{Outcome, done_in, next, with_part, done_or_refused, locally}
+use Rattle.vt_steps.specs.inside.StandsFor.{PartMemory, StandsForPart, StandForParts, GoesOn}
+use Rattle.vt_steps.specs.promise.Cells.{action_worker}
+use Rattle.vt_steps.specs.inside.Cells.{local_rule, if_own, local_step}
+use Rattle.vt_kernel.specs.inside.Held.{HeldWorker, part_memory, StandsFor as WorkerStandsFor}
+use Rattle.vt_kernel.specs.inside.Guards.{IsDone}
 use Rattle.vt_kernel.proofs.ProcessLemmas.{map-put, get-map_of}
-use Rattle.vt_world.specs.Held.{HeldWorld, world_memory, StandsForWorld, AreWorkers, IsWorldInside}
+use Rattle.vt_world.specs.inside.Held.{HeldWorld, world_memory, StandsForWorld, AreWorkers, IsWorldInside}
 
 module _ {S P : Type 0} (sim : Simulation S P) where
   -- a value at a place stands for the part of that worker

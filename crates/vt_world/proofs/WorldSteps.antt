@@ -1,22 +1,23 @@
 -- Steps of a world whose worker or inbox isn't there, and commits at a closed book.
 use Rattle.std.proofs.Common.{◌≡◌, ℕ, zero, suc, ◌+◌, ◌≤◌, true, List, [], ◌∷◌, map, refl, sym, ◌∙◌, ap, subst, arith, Some, None, Result, Err, slice_get}
 use Rattle.std.proofs.lemmas.Option.{slice_get_past}
-use Rattle.vt_key.specs.Times.{Time}
+use Rattle.vt_key.specs.promise.Times.{Time}
 use Rattle.vt_key.specs.declared.fault.Fault.{Fault}
 use Rattle.vt_key.specs.declared.fault.Fault.TheVariants.{NotLawful, Closed}
-use Rattle.vt_model.specs.Handler.{Handlers}
-use Rattle.vt_model.specs.Simulation.{simulation_of}
+use Rattle.vt_model.specs.promise.Handler.{Handlers}
+use Rattle.vt_model.specs.promise.Simulation.{simulation_of}
 use Rattle.vt_steps.specs.declared.step.Step.{Step}
 use Rattle.vt_steps.specs.declared.step.Step.TheVariants.{Send, Commit}
 use Rattle.vt_steps.specs.declared.step.Reply.{Reply}
-use Rattle.vt_steps.specs.World.{World, Book}
-use Rattle.vt_steps.specs.Next.{Outcome, next, refused}
-use Rattle.vt_steps.specs.StandsFor.{GoesOn}
-use Rattle.vt_kernel.specs.Held.{HeldWorker, part_memory}
-use Rattle.vt_steps.specs.Cells.{worker_of, cell_of}
+use Rattle.vt_steps.specs.promise.World.{World, Book}
+use Rattle.vt_steps.specs.promise.Next.{Outcome, next, refused}
+use Rattle.vt_steps.specs.inside.StandsFor.{GoesOn}
+use Rattle.vt_kernel.specs.inside.Held.{HeldWorker, part_memory}
+use Rattle.vt_steps.specs.promise.Cells.{worker_of}
+use Rattle.vt_steps.specs.inside.Cells.{cell_of}
 use Rattle.vt_steps.proofs.steps.CellSteps.{next-commit_closed, next-send_nowhere}
 use Rattle.vt_steps.proofs.steps.CellLemmas.{IsOpenAt, next-nobody}
-use Rattle.vt_world.specs.Held.{HeldWorld, world_memory, StandsForWorld, IsWorldInside}
+use Rattle.vt_world.specs.inside.Held.{HeldWorld, world_memory, StandsForWorld, IsWorldInside}
 use Rattle.vt_world.proofs.WorldLemmas.{nobody-at, worker-at}
 
 module _ {M S P K : Type 0} (handlers : Handlers S P K) (held : HeldWorld M S P K) where

@@ -1,3 +1,2 @@
-pub mod Held
-pub mod Calls
-pub mod Answers
+pub mod promise
+pub mod inside

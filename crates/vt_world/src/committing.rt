@@ -1,7 +1,7 @@
 //! The steps Commit and Close.
 
 ghost use Rattle.vt_steps.specs.declared.step.Step.TheVariants as step;
-ghost use Rattle.vt_world.specs.Held.{IsHeldStepOf};
+ghost use Rattle.vt_world.specs.inside.Held.{IsHeldStepOf};
 
 use crate::in_memory::InMemory;
 use std::alloc::Global;

@@ -1,7 +1,7 @@
 //! The steps Cut and Report.
 
 ghost use Rattle.vt_steps.specs.declared.step.Step.TheVariants as step;
-ghost use Rattle.vt_world.specs.Held.{IsHeldStepOf};
+ghost use Rattle.vt_world.specs.inside.Held.{IsHeldStepOf};
 
 use crate::in_memory::InMemory;
 use vt_cells::reply_of;

@@ -2,8 +2,8 @@
 
 ghost use Rattle.std.specs.Prelude.{◌≡◌, ◌<◌, IsTrue, false, Err, IfOk, IfErr};
 ghost use Rattle.vt_key.specs.declared.fault.Fault.TheVariants.{Memory, NotLawful};
-ghost use Rattle.vt_model.specs.Simulation.{simulation_of, after};
-ghost use Rattle.vt_model.specs.Sequential.{events_of, whole_run, seq_finals};
+ghost use Rattle.vt_model.specs.promise.Simulation.{simulation_of, after};
+ghost use Rattle.vt_model.specs.promise.Sequential.{events_of, whole_run, seq_finals};
 
 use crate::in_memory::InMemory;
 use crate::world::World;

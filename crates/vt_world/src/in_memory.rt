@@ -2,9 +2,9 @@
 
 ghost use Rattle.std.specs.Prelude.{◌≡◌, IfOk, IfErr};
 ghost use Rattle.vt_key.specs.declared.fault.Fault.TheVariants.{Memory};
-ghost use Rattle.vt_model.specs.Settings.{end_of};
-ghost use Rattle.vt_steps.specs.World.{book_floor, book_records};
-ghost use Rattle.vt_world.specs.Held.{IsHeldStepOf};
+ghost use Rattle.vt_model.specs.promise.Settings.{end_of};
+ghost use Rattle.vt_steps.specs.promise.World.{book_floor, book_records};
+ghost use Rattle.vt_world.specs.inside.Held.{IsHeldStepOf};
 
 use crate::inbox::Inbox;
 use std::alloc::Global;
@@ -33,7 +33,7 @@ pub(crate) struct InMemory<'m, M: EventModel> {
 }
 
 impl<'m, M: EventModel> Model for InMemory<'m, M> {
-    ghost use Rattle.vt_world.specs.Held.{HeldWorld, held_world, IsWorldInside};
+    ghost use Rattle.vt_world.specs.inside.Held.{HeldWorld, held_world, IsWorldInside};
 
     ghost Value = { HeldWorld M M.State M.Payload M.Kept };
 

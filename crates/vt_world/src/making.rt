@@ -4,12 +4,12 @@ ghost use Rattle.std.specs.Prelude.{◌≡◌, ◌≤◌, [], length, map, repli
 ghost use Rattle.std.specs.List.{range_with_len};
 ghost use Rattle.vt_key.specs.declared.fault.Fault.TheVariants.{Memory};
 ghost use Rattle.vt_key.specs.declared.limits.TheConstants.{MAX_COUNT};
-ghost use Rattle.vt_model.specs.Simulation.{simulation_of};
-ghost use Rattle.vt_steps.specs.World.{opening_part, opening_world};
-ghost use Rattle.vt_steps.specs.StandsFor.{StandForParts};
-ghost use Rattle.vt_kernel.specs.Held.{part_memory};
-ghost use Rattle.vt_world.specs.Held.{AreWorkers};
-ghost use Rattle.vt_world.specs.Answers.{PassesAtStart, IsOpeningRefusal};
+ghost use Rattle.vt_model.specs.promise.Simulation.{simulation_of};
+ghost use Rattle.vt_steps.specs.promise.World.{opening_part, opening_world};
+ghost use Rattle.vt_steps.specs.inside.StandsFor.{StandForParts};
+ghost use Rattle.vt_kernel.specs.inside.Held.{part_memory};
+ghost use Rattle.vt_world.specs.inside.Held.{AreWorkers};
+ghost use Rattle.vt_world.specs.promise.Answers.{PassesAtStart, IsOpeningRefusal};
 
 use crate::in_memory::InMemory;
 use crate::inbox::Inbox;

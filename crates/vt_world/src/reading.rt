@@ -2,15 +2,15 @@
 
 ghost use Rattle.std.specs.Prelude.{◌≡◌, ◌<◌, ◌≤◌, ◌⊎◌, map, All, IfOk, IfErr, OnOk};
 ghost use Rattle.std.specs.List.{flat_map};
-ghost use Rattle.vt_key.specs.Times.{Time, TimeAtMost};
+ghost use Rattle.vt_key.specs.promise.Times.{Time, TimeAtMost};
 ghost use Rattle.vt_key.specs.declared.fault.Fault.TheVariants.{Memory, NotLawful};
-ghost use Rattle.vt_model.specs.Simulation.{simulation_of};
-ghost use Rattle.vt_model.specs.Settings.{end_of};
-ghost use Rattle.vt_steps.specs.Letters.{least_time};
-ghost use Rattle.vt_steps.specs.World.{least};
-ghost use Rattle.vt_kernel.specs.Guards.{held_letters};
-ghost use Rattle.vt_world.specs.Held.{StandsForWorld, least_held};
-ghost use Rattle.vt_world.specs.Answers.{IsReachedWorld, IsPastIn, EndsSequential};
+ghost use Rattle.vt_model.specs.promise.Simulation.{simulation_of};
+ghost use Rattle.vt_model.specs.promise.Settings.{end_of};
+ghost use Rattle.vt_steps.specs.promise.Letters.{least_time};
+ghost use Rattle.vt_steps.specs.promise.World.{least};
+ghost use Rattle.vt_kernel.specs.inside.Guards.{held_letters};
+ghost use Rattle.vt_world.specs.inside.Held.{StandsForWorld, least_held};
+ghost use Rattle.vt_world.specs.promise.Answers.{IsReachedWorld, IsPastIn, EndsSequential};
 
 use crate::in_memory::InMemory;
 use crate::inbox::Inbox;

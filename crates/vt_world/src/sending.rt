@@ -1,7 +1,7 @@
 //! The steps Send and Fetch.
 
 ghost use Rattle.vt_steps.specs.declared.step.Step.TheVariants.{Send, Fetch};
-ghost use Rattle.vt_world.specs.Held.{IsHeldStepOf};
+ghost use Rattle.vt_world.specs.inside.Held.{IsHeldStepOf};
 
 use crate::in_memory::InMemory;
 use vt_key::Fault;

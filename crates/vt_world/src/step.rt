@@ -1,14 +1,15 @@
 //! The eleven steps of a world, and lists of them.
 
 ghost use Rattle.std.specs.Prelude.{◌≡◌, ◌⊎◌, IsTrue, Err, take, slice_get, IfOk, IfErr, MatchOption, MatchResult};
-ghost use Rattle.vt_key.specs.Times.{TimeAtMost};
+ghost use Rattle.vt_key.specs.promise.Times.{TimeAtMost};
 ghost use Rattle.vt_key.specs.declared.fault.Fault.TheVariants.{NotLawful, Closed};
-ghost use Rattle.vt_model.specs.Simulation.{simulation_of};
-ghost use Rattle.vt_model.specs.Settings.{end_of};
-ghost use Rattle.vt_steps.specs.World.{book_floor};
-ghost use Rattle.vt_steps.specs.Next.{run, answers};
-ghost use Rattle.vt_kernel.specs.Refusals.{IsSpent};
-ghost use Rattle.vt_world.specs.Calls.{IsStepOf, IsOfBook, AreWithinLimits, IsAnsweredBy, refusals};
+ghost use Rattle.vt_model.specs.promise.Simulation.{simulation_of};
+ghost use Rattle.vt_model.specs.promise.Settings.{end_of};
+ghost use Rattle.vt_steps.specs.promise.World.{book_floor};
+ghost use Rattle.vt_steps.specs.promise.Next.{run, answers};
+ghost use Rattle.vt_kernel.specs.promise.Refusals.{IsSpent};
+ghost use Rattle.vt_world.specs.promise.Calls.{IsStepOf, IsOfBook, AreWithinLimits, refusals};
+ghost use Rattle.vt_world.specs.inside.Calls.{IsAnsweredBy};
 
 use crate::world::{World, add_step};
 use std::alloc::Global;

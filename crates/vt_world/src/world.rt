@@ -1,12 +1,12 @@
 //! The world.
 
 ghost use Rattle.std.specs.Prelude.{◌≡◌, ◌++◌, IsTrue, [], ◌∷◌, List, IfOk, IfErr};
-ghost use Rattle.vt_key.specs.Times.{TimeAtMost};
+ghost use Rattle.vt_key.specs.promise.Times.{TimeAtMost};
 ghost use Rattle.vt_key.specs.declared.fault.Fault.TheVariants.{Memory};
-ghost use Rattle.vt_model.specs.Simulation.{simulation_of};
-ghost use Rattle.vt_model.specs.Sequential.{seq_records};
-ghost use Rattle.vt_model.specs.Settings.{end_of};
-ghost use Rattle.vt_steps.specs.World.{least, book_floor};
+ghost use Rattle.vt_model.specs.promise.Simulation.{simulation_of};
+ghost use Rattle.vt_model.specs.promise.Sequential.{seq_records};
+ghost use Rattle.vt_model.specs.promise.Settings.{end_of};
+ghost use Rattle.vt_steps.specs.promise.World.{least, book_floor};
 
 use crate::in_memory::InMemory;
 use std::alloc::Global;
@@ -29,10 +29,10 @@ pub struct World<'m, M: EventModel> {
 }
 
 impl<'m, M: EventModel> Model for World<'m, M> {
-    ghost use Rattle.vt_model.specs.Simulation.{simulation_of};
-    ghost use Rattle.vt_steps.specs.Next.{reached};
-    ghost use Rattle.vt_world.specs.Held.{StandsForWorld};
-    ghost use Rattle.vt_world.specs.Calls.{RunWorld};
+    ghost use Rattle.vt_model.specs.promise.Simulation.{simulation_of};
+    ghost use Rattle.vt_steps.specs.promise.Next.{reached};
+    ghost use Rattle.vt_world.specs.inside.Held.{StandsForWorld};
+    ghost use Rattle.vt_world.specs.promise.Calls.{RunWorld};
 
     ghost Value = { RunWorld M M.Payload };
 

@@ -1,13 +1,13 @@
 use Rattle.std.proofs.Common.{codes, map, rules}
-use Rattle.vt_options.specs.Own.{models_of}
-use Rattle.vt_command.specs.Line.{given_in}
-use Rattle.vt_command.specs.Table.{twarp_models}
-use Rattle.vt_tasks.specs.Programs.{IsTaskOf}
-use Rattle.vt_tasks.specs.Refusals.{TellsRefusalOf}
+use Rattle.vt_options.specs.inside.Own.{models_of}
+use Rattle.vt_command.specs.inside.Line.{given_in}
+use Rattle.vt_command.specs.promise.Table.{twarp_models}
+use Rattle.vt_tasks.specs.inside.Programs.{IsTaskOf}
+use Rattle.vt_tasks.specs.promise.Refusals.{TellsRefusalOf}
 use Rattle.vt_tasks.proofs.ModelsLemmas.{task_given}
 use Rattle.vt_tasks.proofs.ProgramLemmas.{carried, EndsAs, ends_as, untouched, unrun}
-use Rattle.vt_program.specs.Models.{meaning_of, Makes}
-use Rattle.vt_program.specs.Refusals.{TellsRefusal}
+use Rattle.vt_program.specs.promise.Models.{meaning_of, Makes}
+use Rattle.vt_program.specs.promise.Refusals.{TellsRefusal}
 use Rattle.vt_program.proofs.OutcomeLemmas.{at_twarp}
 use Rattle.vt_program.proofs.program.Given.{Over}
 use Rattle.vt_program.proofs.program.Goals as goal

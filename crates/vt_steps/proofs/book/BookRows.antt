@@ -4,23 +4,23 @@ use Rattle.std.specs.List.{sum_by, prefix_len, range_with_len, AllByRecursion}
 use Rattle.std.proofs.lemmas.Bool.Decides.{nat_tests}
 use Rattle.std.proofs.lemmas.List.{map-append}
 use Rattle.std.proofs.lemmas.List.Sums.{sum_by-cons, sum_by-append}
-use Rattle.vt_key.specs.Order.{RankBefore}
-use Rattle.vt_key.specs.Times.{Time, TimeAtMost, time_before}
+use Rattle.vt_key.specs.inside.Order.{RankBefore}
+use Rattle.vt_key.specs.promise.Times.{Time, TimeAtMost, time_before}
 use Rattle.vt_key.specs.declared.letter.Letter.{Letter}
 use Rattle.vt_key.specs.declared.letter.Sign.{Sign}
 use Rattle.vt_key.specs.declared.letter.Sign.TheVariants.{Plus, Minus}
-use Rattle.vt_key.specs.Lists.{IsRisingBy}
+use Rattle.vt_key.specs.promise.Lists.{IsRisingBy}
 use Rattle.vt_model.specs.declared.rows.Row.{Row}
 use Rattle.vt_model.specs.declared.sending.Sent.{Sent}
-use Rattle.vt_model.specs.Simulation.{Simulation, Triple}
+use Rattle.vt_model.specs.promise.Simulation.{Simulation, Triple}
 use Rattle.vt_model.proofs.RunLemmas.{after_from}
-use Rattle.vt_steps.specs.Copies.{process_sum}
-use Rattle.vt_steps.specs.BookSteps.{with_rows}
-use Rattle.vt_steps.specs.Letters.{stamped, unstamped}
-use Rattle.vt_steps.specs.PartSteps.{is_below, ripe, ripe_rows, rows_of_commit, process_after_commit, part_after_send, part_after_fetch, part_after_cut, part_after_commit}
-use Rattle.vt_steps.specs.ProcessSteps.{ProcessEffect, effect_of_execute, effect_of_undo, with_letter}
-use Rattle.vt_steps.specs.Rows.{rows_from}
-use Rattle.vt_steps.specs.World.{Entry, LogicalProcess, Part, World, entry_events, triple_after, process_at, process_count, opening_part, opening_world}
+use Rattle.vt_steps.specs.inside.Copies.{process_sum}
+use Rattle.vt_steps.specs.promise.BookSteps.{with_rows}
+use Rattle.vt_steps.specs.promise.Letters.{stamped, unstamped}
+use Rattle.vt_steps.specs.promise.PartSteps.{is_below, ripe, ripe_rows, rows_of_commit, process_after_commit, part_after_send, part_after_fetch, part_after_cut, part_after_commit}
+use Rattle.vt_steps.specs.promise.ProcessSteps.{ProcessEffect, effect_of_execute, effect_of_undo, with_letter}
+use Rattle.vt_steps.specs.promise.Rows.{rows_from}
+use Rattle.vt_steps.specs.promise.World.{Entry, LogicalProcess, Part, World, entry_events, triple_after, process_at, process_count, opening_part, opening_world}
 use Rattle.vt_steps.proofs.letters.Balance.{leaves-same}
 use Rattle.vt_steps.proofs.steps.Changes.{Act, executes, undoes, cancels, Local, acts, takes, Change, stays, local, sends, fetches, cuts, reports, commits, closes}
 use Rattle.vt_steps.proofs.time.Early.{early, early_in, not-early}

@@ -6,24 +6,25 @@ use Rattle.std.proofs.lemmas.Bool.{cases_order, eq-eqb, eqb-true, cases_Bool, an
 use Rattle.std.proofs.lemmas.List.{map-append}
 use Rattle.std.proofs.lemmas.List.Elements.{filter-append}
 use Rattle.std.proofs.lemmas.List.Sums.{sum_by-cons, sum_by-append}
-use Rattle.vt_key.specs.Order.{KeyBefore, key_same}
-use Rattle.vt_key.specs.Times.{TimeBefore, opening_time, time_before}
-use Rattle.vt_key.specs.Keys.{Key}
-use Rattle.vt_key.specs.Lists.{IsRisingBy}
+use Rattle.vt_key.specs.promise.Order.{KeyBefore, key_same}
+use Rattle.vt_key.specs.promise.Times.{TimeBefore, opening_time, time_before}
+use Rattle.vt_key.specs.promise.Keys.{Key}
+use Rattle.vt_key.specs.promise.Lists.{IsRisingBy}
 use Rattle.vt_key.proofs.OrderLemmas.{key-irreflexive, key-total, key_same-true, same-key_same}
 use Rattle.vt_model.specs.declared.rows.Row.{Row}
 use Rattle.vt_model.specs.declared.sending.Sent.{Sent}
-use Rattle.vt_model.specs.Histories.{IsLawful}
-use Rattle.vt_model.specs.Rows.{RowBefore}
-use Rattle.vt_model.specs.Sequential.{events_before, rows_after, seq_events, seq_rows, whole_run}
-use Rattle.vt_model.specs.Simulation.{Simulation}
+use Rattle.vt_model.specs.promise.Histories.{IsLawful}
+use Rattle.vt_model.specs.promise.Rows.{RowBefore}
+use Rattle.vt_model.specs.promise.Sequential.{events_before, rows_after, seq_events, seq_rows, whole_run}
+use Rattle.vt_model.specs.promise.Simulation.{Simulation}
 use Rattle.vt_model.proofs.RunLemmas.{after_from}
 use Rattle.vt_steps.specs.declared.step.Step.{Step}
-use Rattle.vt_steps.specs.Copies.{as_count}
-use Rattle.vt_steps.specs.Letters.{unstamped}
-use Rattle.vt_steps.specs.Next.{reached}
-use Rattle.vt_steps.specs.Rows.{row_before, rows_from, rows_in_order, NoneBefore}
-use Rattle.vt_steps.specs.World.{Entry, LogicalProcess, Part, World, entry_events, process_at}
+use Rattle.vt_steps.specs.inside.Copies.{as_count}
+use Rattle.vt_steps.specs.promise.Letters.{unstamped}
+use Rattle.vt_steps.specs.promise.Next.{reached}
+use Rattle.vt_steps.specs.promise.Rows.{row_before, rows_from, rows_in_order}
+use Rattle.vt_steps.specs.inside.Rows.{NoneBefore}
+use Rattle.vt_steps.specs.promise.World.{Entry, LogicalProcess, Part, World, entry_events, process_at}
 use Rattle.vt_steps.proofs.book.BookRows.{committed_rows, part_rows, process_rows, rows_from-append}
 use Rattle.vt_steps.proofs.letters.Entries.{process-at_place}
 use Rattle.vt_steps.proofs.letters.EventTimes.{early-events}

@@ -1,10 +1,11 @@
 -- The guards that never fail, and the whole sentence.
 use Rattle.std.proofs.Common.{ℕ, List}
-use Rattle.vt_model.specs.Histories.{IsLawful}
-use Rattle.vt_model.specs.Simulation.{Simulation}
+use Rattle.vt_model.specs.promise.Histories.{IsLawful}
+use Rattle.vt_model.specs.promise.Simulation.{Simulation}
 use Rattle.vt_steps.specs.declared.step.Step.{Step}
-use Rattle.vt_steps.specs.Claims.{DoGuardsPass, IsTimeWarpRight}
-use Rattle.vt_steps.specs.Next.{reached}
+use Rattle.vt_steps.specs.promise.Claims.{IsTimeWarpRight}
+use Rattle.vt_steps.specs.inside.Claims.{DoGuardsPass}
+use Rattle.vt_steps.specs.promise.Next.{reached}
 use Rattle.vt_steps.proofs.time.Floors.{reached-times}
 use Rattle.vt_steps.proofs.steps.LetterGuards.{accepts-done, homes-done}
 use Rattle.vt_steps.proofs.book.ReachedBooks.{closed-takes_nothing, closed-whole, reached-accounted, reached-falls}

@@ -2,19 +2,20 @@
 use Rattle.std.proofs.Common.{◌≡◌, ℕ, ◌/◌, ◌%◌, ◌<◌, true, false, List, [], ◌∷◌, ◌++◌, refl, sym, subst, ◌∙◌, ap, arith}
 use Rattle.std.specs.Prelude.{IsTrue}
 use Rattle.std.specs.List.{AllByRecursion}
-use Rattle.vt_key.specs.Order.{RankBefore}
-use Rattle.vt_key.specs.Times.{TimeAtMost, TimeBefore}
+use Rattle.vt_key.specs.inside.Order.{RankBefore}
+use Rattle.vt_key.specs.promise.Times.{TimeAtMost, TimeBefore}
 use Rattle.vt_model.specs.declared.sending.Sent.{Sent}
-use Rattle.vt_model.specs.Histories.{IsLawful}
-use Rattle.vt_model.specs.Sequential.{events_of, whole_run, seq_records}
-use Rattle.vt_model.specs.Simulation.{Simulation, after}
+use Rattle.vt_model.specs.promise.Histories.{IsLawful}
+use Rattle.vt_model.specs.promise.Sequential.{events_of, whole_run, seq_records}
+use Rattle.vt_model.specs.promise.Simulation.{Simulation, after}
 use Rattle.vt_model.proofs.EndLemmas.{events-end}
 use Rattle.vt_steps.specs.declared.step.Step.{Step}
-use Rattle.vt_steps.specs.Claims.{AreProcessesFinal, IsProcess, IsWhole, NothingFalls, StaysClosed}
-use Rattle.vt_steps.specs.Letters.{unstamped}
-use Rattle.vt_steps.specs.Next.{next, reached, run}
+use Rattle.vt_steps.specs.promise.Claims.{IsProcess, IsWhole, NothingFalls, StaysClosed}
+use Rattle.vt_steps.specs.inside.Claims.{AreProcessesFinal}
+use Rattle.vt_steps.specs.promise.Letters.{unstamped}
+use Rattle.vt_steps.specs.promise.Next.{next, reached, run}
 use Rattle.vt_steps.proofs.steps.CellSteps.{next-commit_closed, next-close_closed}
-use Rattle.vt_steps.specs.World.{Entry, LogicalProcess, World, book_floor, book_records, entry_events, least, opening_world, triple_after}
+use Rattle.vt_steps.specs.promise.World.{Entry, LogicalProcess, World, book_floor, book_records, entry_events, least, opening_world, triple_after}
 use Rattle.vt_steps.proofs.book.BookRows.{IsBooked, booked-kept, opening-booked}
 use Rattle.vt_steps.proofs.steps.Bounds.{IsBounded, reached-bounds}
 use Rattle.vt_steps.proofs.steps.Changes.{Change, stays, local, sends, fetches, cuts, reports, commits, closes, next_changes}

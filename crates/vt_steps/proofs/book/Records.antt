@@ -4,20 +4,22 @@ use Rattle.std.proofs.Common.{◌≡◌, ℕ, ◌<◌, [], sym, subst, ◌∙◌
 use Rattle.std.specs.List.{sum_by, range_with_len}
 use Rattle.std.proofs.lemmas.List.{map-append}
 use Rattle.std.proofs.lemmas.Option.{slice_get_within}
-use Rattle.vt_key.specs.Order.{RankBefore}
-use Rattle.vt_key.specs.Times.{Time, TimeAtMost, opening_time}
-use Rattle.vt_key.specs.Lists.{IsRisingBy}
+use Rattle.vt_key.specs.inside.Order.{RankBefore}
+use Rattle.vt_key.specs.promise.Times.{Time, TimeAtMost, opening_time}
+use Rattle.vt_key.specs.promise.Lists.{IsRisingBy}
 use Rattle.vt_model.specs.declared.rows.Row.{Row}
 use Rattle.vt_model.specs.declared.sending.Sent.{Sent}
-use Rattle.vt_model.specs.Simulation.{Simulation}
-use Rattle.vt_model.specs.Histories.{IsLawful}
-use Rattle.vt_model.specs.Sequential.{events_before, events_of, records_of, rows_after, rows_before, seq_events, seq_rows, whole_run}
-use Rattle.vt_model.specs.Rows.{RowBefore}
+use Rattle.vt_model.specs.promise.Simulation.{Simulation}
+use Rattle.vt_model.specs.promise.Histories.{IsLawful}
+use Rattle.vt_model.specs.promise.Sequential.{events_before, events_of, records_of, rows_after, rows_before, seq_events, seq_rows, whole_run}
+use Rattle.vt_model.specs.promise.Rows.{RowBefore}
 use Rattle.vt_model.proofs.EndLemmas.{whole_is_history}
-use Rattle.vt_steps.specs.Claims.{AreFloorsRight, AreHistoriesRight, AreRecordsRight, IsProcess}
-use Rattle.vt_steps.specs.Letters.{unstamped}
-use Rattle.vt_steps.specs.Rows.{rows_from, rows_in_order, AreSameRows}
-use Rattle.vt_steps.specs.World.{Entry, LogicalProcess, Part, World, book_floor, book_rows, entry_events, least, process_at}
+use Rattle.vt_steps.specs.promise.Claims.{AreFloorsRight, AreRecordsRight, IsProcess}
+use Rattle.vt_steps.specs.inside.Claims.{AreHistoriesRight}
+use Rattle.vt_steps.specs.promise.Letters.{unstamped}
+use Rattle.vt_steps.specs.promise.Rows.{rows_from, rows_in_order}
+use Rattle.vt_steps.specs.inside.Rows.{AreSameRows}
+use Rattle.vt_steps.specs.promise.World.{Entry, LogicalProcess, Part, World, book_floor, book_rows, entry_events, least, process_at}
 use Rattle.vt_steps.proofs.time.Announced.{announced-least}
 use Rattle.vt_steps.proofs.book.BookRows.{AreNotBefore, IsBooked, part_rows, process_rows}
 use Rattle.vt_steps.proofs.letters.Entries.{process-at_place}

@@ -7,19 +7,19 @@ use Rattle.std.proofs.lemmas.List.{map-append}
 use Rattle.std.proofs.lemmas.List.Sums.{sum_by-cons, sum_by-append}
 use Rattle.std.proofs.lemmas.Bool.{cases_Bool}
 use Rattle.vt_key.proofs.ListLemmas.{rising-filter}
-use Rattle.vt_key.specs.Times.{Time, TimeAtMost, TimeBefore, time_before}
-use Rattle.vt_key.specs.Keys.{Key}
-use Rattle.vt_key.specs.Lists.{IsRisingBy}
+use Rattle.vt_key.specs.promise.Times.{Time, TimeAtMost, TimeBefore, time_before}
+use Rattle.vt_key.specs.promise.Keys.{Key}
+use Rattle.vt_key.specs.promise.Lists.{IsRisingBy}
 use Rattle.vt_model.specs.declared.rows.Row.{Row}
 use Rattle.vt_model.specs.declared.rows.Record.{Record}
 use Rattle.vt_model.specs.declared.sending.Sent.{Sent}
-use Rattle.vt_model.specs.Rows.{RowBefore, AreRowsOf}
-use Rattle.vt_model.specs.Simulation.{Simulation, Triple}
-use Rattle.vt_model.specs.Sequential.{rows_before, records_of, events_before, whole_run, rows_after, seq_rows, seq_records}
-use Rattle.vt_model.specs.Histories.{IsLawful}
+use Rattle.vt_model.specs.promise.Rows.{RowBefore, AreRowsOf}
+use Rattle.vt_model.specs.promise.Simulation.{Simulation, Triple}
+use Rattle.vt_model.specs.promise.Sequential.{rows_before, records_of, events_before, whole_run, rows_after, seq_rows, seq_records}
+use Rattle.vt_model.specs.promise.Histories.{IsLawful}
 use Rattle.vt_model.proofs.RunLemmas.{filter-yes, filter-no}
 use Rattle.vt_model.proofs.EndLemmas.{whole_rows-rise}
-use Rattle.vt_steps.specs.Rows.{rows_from}
+use Rattle.vt_steps.specs.promise.Rows.{rows_from}
 use Rattle.vt_steps.proofs.letters.EventTimes.{AreEventsLate, DoTimesRise, late-events, late-rest}
 
 -- ---- rows before a time

@@ -1,14 +1,14 @@
 -- Once a worker's floor is the end of the run, the final values of each worker's processes are those of the sequential run.
 use Rattle.std.proofs.Common.{◌≡◌, ℕ, suc, ◌+◌, List, [], ◌∷◌, ◌++◌, length, map, refl, ◌∙◌, ap, subst, arith, Some, slice_get}
 use Rattle.std.specs.List.{range_with_len}
-use Rattle.vt_key.specs.Times.{TimeAtMost}
-use Rattle.vt_model.specs.Histories.{IsLawful}
-use Rattle.vt_model.specs.Sequential.{events_of, whole_run}
-use Rattle.vt_model.specs.Simulation.{Simulation, after}
+use Rattle.vt_key.specs.promise.Times.{TimeAtMost}
+use Rattle.vt_model.specs.promise.Histories.{IsLawful}
+use Rattle.vt_model.specs.promise.Sequential.{events_of, whole_run}
+use Rattle.vt_model.specs.promise.Simulation.{Simulation, after}
 use Rattle.vt_steps.specs.declared.step.Step.{Step}
-use Rattle.vt_steps.specs.Finals.{final_value, worker_finals, values_of_processes, part_values}
-use Rattle.vt_steps.specs.Next.{reached}
-use Rattle.vt_steps.specs.World.{LogicalProcess, Part, least, process_at, triple_after}
+use Rattle.vt_steps.specs.inside.Finals.{final_value, worker_finals, values_of_processes, part_values}
+use Rattle.vt_steps.specs.promise.Next.{reached}
+use Rattle.vt_steps.specs.promise.World.{LogicalProcess, Part, least, process_at, triple_after}
 use Rattle.vt_steps.proofs.letters.Entries.{process-at_place}
 use Rattle.vt_steps.proofs.book.ReachedBooks.{reached-accounted, quiet-triple}
 use Rattle.vt_steps.proofs.book.Records.{floors-right}

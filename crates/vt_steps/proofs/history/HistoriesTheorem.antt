@@ -1,10 +1,10 @@
 -- The theorem on histories: in each reached world the copies are right, the ranks rise, and the histories are right.
 use Rattle.std.proofs.Common.{ℕ, List}
-use Rattle.vt_model.specs.Histories.{IsLawful}
-use Rattle.vt_model.specs.Simulation.{Simulation}
+use Rattle.vt_model.specs.promise.Histories.{IsLawful}
+use Rattle.vt_model.specs.promise.Simulation.{Simulation}
 use Rattle.vt_steps.specs.declared.step.Step.{Step}
-use Rattle.vt_steps.specs.Claims.{Histories}
-use Rattle.vt_steps.specs.Next.{reached}
+use Rattle.vt_steps.specs.inside.Claims.{Histories}
+use Rattle.vt_steps.specs.promise.Next.{reached}
 use Rattle.vt_steps.proofs.letters.Stamps.{copies_are_right}
 use Rattle.vt_steps.proofs.history.QuietHistories.{histories_are_right, reached-sound}
 use Rattle.vt_steps.proofs.letters.Ranks.{ranks_rise, reached-ranks}

@@ -7,14 +7,15 @@ use Rattle.std.proofs.lemmas.Bool.{cases_order}
 use Rattle.std.proofs.lemmas.List.{map-append}
 use Rattle.vt_key.specs.declared.letter.Event.{Event}
 use Rattle.vt_key.specs.declared.order.Stamp.{Stamp}
-use Rattle.vt_key.specs.Lists.{Among, IsRisingBy}
-use Rattle.vt_model.specs.Histories.{AreNumbered, IsLawful, IsSent, sends_of}
-use Rattle.vt_model.specs.Simulation.{Simulation, after}
+use Rattle.vt_key.specs.promise.Lists.{Among, IsRisingBy}
+use Rattle.vt_model.specs.promise.Histories.{AreNumbered, IsLawful}
+use Rattle.vt_model.specs.inside.Histories.{IsSent, sends_of}
+use Rattle.vt_model.specs.promise.Simulation.{Simulation, after}
 use Rattle.vt_model.specs.declared.sending.Sent.{Sent}
 use Rattle.vt_model.proofs.RunLemmas.{numbered-all, numbered-among}
-use Rattle.vt_steps.specs.Copies.{entry_sum, live_count, of_stamp, sent_by}
-use Rattle.vt_steps.specs.Letters.{stamped, unstamped}
-use Rattle.vt_steps.specs.World.{Entry, World, entry_events, process_at, process_count, start_events}
+use Rattle.vt_steps.specs.inside.Copies.{entry_sum, live_count, of_stamp, sent_by}
+use Rattle.vt_steps.specs.promise.Letters.{stamped, unstamped}
+use Rattle.vt_steps.specs.promise.World.{Entry, World, entry_events, process_at, process_count, start_events}
 use Rattle.vt_key.proofs.ListLemmas.{among-append, among-flat_map, among-left, among-map, among-range, among-right, every-all, flat_map-among, map-among, range-among, rising-unmap, same-element}
 use Rattle.vt_steps.proofs.lists.Sums.{some-among, some-either, sum-among}
 use Rattle.vt_steps.proofs.letters.Stamped.{unstamped-stamped}

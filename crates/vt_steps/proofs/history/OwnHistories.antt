@@ -10,18 +10,18 @@ use Rattle.vt_key.specs.declared.letter.Letter.{Letter}
 use Rattle.vt_key.specs.declared.letter.Mail.{Mail}
 use Rattle.vt_key.specs.declared.letter.Sign.{Sign}
 use Rattle.vt_key.specs.declared.letter.Sign.TheVariants.{Plus, Minus}
-use Rattle.vt_model.specs.Histories.{sends_from}
-use Rattle.vt_model.specs.Simulation.{Simulation, Triple}
+use Rattle.vt_model.specs.inside.Histories.{sends_from}
+use Rattle.vt_model.specs.promise.Simulation.{Simulation, Triple}
 use Rattle.vt_model.proofs.RunLemmas.{after_from}
 use Rattle.vt_model.specs.declared.sending.Sent.{Sent}
 use Rattle.vt_steps.specs.declared.step.Step.{Step}
-use Rattle.vt_steps.specs.Letters.{signed, stamped, unstamped}
-use Rattle.vt_key.specs.Order.{rank_before}
-use Rattle.vt_key.specs.Queues.{has_stamp, letter_rank}
-use Rattle.vt_steps.specs.Next.{reached}
-use Rattle.vt_steps.specs.PartSteps.{is_below, is_for, mail_of_send, part_after_commit, part_after_cut, part_after_fetch, part_after_send, process_after_commit}
-use Rattle.vt_steps.specs.ProcessSteps.{ProcessEffect, effect_of_execute, effect_of_undo, with_letter}
-use Rattle.vt_steps.specs.World.{Entry, LogicalProcess, Part, World, entry_events, opening_part, opening_world, process_at, process_count, triple_after}
+use Rattle.vt_steps.specs.promise.Letters.{signed, stamped, unstamped}
+use Rattle.vt_key.specs.promise.Order.{rank_before}
+use Rattle.vt_key.specs.promise.Queues.{has_stamp, letter_rank}
+use Rattle.vt_steps.specs.promise.Next.{reached}
+use Rattle.vt_steps.specs.promise.PartSteps.{is_below, is_for, mail_of_send, part_after_commit, part_after_cut, part_after_fetch, part_after_send, process_after_commit}
+use Rattle.vt_steps.specs.promise.ProcessSteps.{ProcessEffect, effect_of_execute, effect_of_undo, with_letter}
+use Rattle.vt_steps.specs.promise.World.{Entry, LogicalProcess, Part, World, entry_events, opening_part, opening_world, process_at, process_count, triple_after}
 use Rattle.vt_key.proofs.ListLemmas.{before_last, every-append, every-get, every-insert_ordered, every-left, every-map, every-remove, every-right, every-without_first, filter-passes, find-passes}
 use Rattle.vt_steps.proofs.lists.Places.{all-put, get-map, get-replicate}
 use Rattle.vt_steps.proofs.letters.Stamped.{unstamped-stamped}

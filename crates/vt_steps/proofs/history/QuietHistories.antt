@@ -4,27 +4,30 @@ use Rattle.std.proofs.Common.{◌≡◌, ℕ, ◌+◌, ◌/◌, ◌%◌, ◌≤�
 use Rattle.std.proofs.Math.Nat.{le_refl}
 use Rattle.std.proofs.lemmas.Bool.{ltb-true, ltb-false, lt-ltb, cases_Bool}
 use Rattle.std.specs.List.{AllByRecursion}
-use Rattle.vt_key.specs.Order.{KeyBefore, RankBefore, StampBefore}
-use Rattle.vt_key.specs.Times.{Time, TimeAtMost, TimeBefore, time_before}
+use Rattle.vt_key.specs.promise.Order.{KeyBefore}
+use Rattle.vt_key.specs.inside.Order.{RankBefore, StampBefore}
+use Rattle.vt_key.specs.promise.Times.{Time, TimeAtMost, TimeBefore, time_before}
 use Rattle.vt_key.proofs.OrderLemmas.{stamp-irreflexive}
 use Rattle.vt_key.specs.declared.letter.Event.{Event}
 use Rattle.vt_key.specs.declared.letter.Letter.{Letter}
 use Rattle.vt_key.specs.declared.letter.Sign.{Sign}
 use Rattle.vt_key.specs.declared.letter.Sign.TheVariants.{Plus, Minus}
 use Rattle.vt_key.specs.declared.order.Stamp.{Stamp}
-use Rattle.vt_key.specs.Lists.{Among, IsRisingBy}
-use Rattle.vt_model.specs.Histories.{IsHistory, IsLawful, IsRising, IsSent, sends_from}
-use Rattle.vt_model.specs.Sequential.{events_before, seq_events}
-use Rattle.vt_model.specs.Simulation.{Simulation, Triple}
+use Rattle.vt_key.specs.promise.Lists.{Among, IsRisingBy}
+use Rattle.vt_model.specs.promise.Histories.{IsLawful}
+use Rattle.vt_model.specs.inside.Histories.{IsHistory, IsRising, IsSent, sends_from}
+use Rattle.vt_model.specs.promise.Sequential.{events_before, seq_events}
+use Rattle.vt_model.specs.promise.Simulation.{Simulation, Triple}
 use Rattle.vt_model.specs.declared.sending.Sent.{Sent}
 use Rattle.vt_model.proofs.EndLemmas.{history_is_sequential}
 use Rattle.vt_model.proofs.RunLemmas.{filter-no, filter-yes}
 use Rattle.vt_steps.specs.declared.step.Step.{Step}
-use Rattle.vt_steps.specs.Claims.{AreHistoriesRight, IsProcess}
-use Rattle.vt_steps.specs.Copies.{entry_sum, is_copy, is_event_of, letter_sum, live_count, minus, plus}
-use Rattle.vt_steps.specs.Letters.{least_time, letter_time, unstamped}
-use Rattle.vt_steps.specs.Next.{reached}
-use Rattle.vt_steps.specs.World.{Entry, LogicalProcess, World, all_letters, entry_events, least}
+use Rattle.vt_steps.specs.promise.Claims.{IsProcess}
+use Rattle.vt_steps.specs.inside.Claims.{AreHistoriesRight}
+use Rattle.vt_steps.specs.inside.Copies.{entry_sum, is_copy, is_event_of, letter_sum, live_count, minus, plus}
+use Rattle.vt_steps.specs.promise.Letters.{least_time, letter_time, unstamped}
+use Rattle.vt_steps.specs.promise.Next.{reached}
+use Rattle.vt_steps.specs.promise.World.{Entry, LogicalProcess, World, all_letters, entry_events, least}
 use Rattle.vt_key.proofs.ListLemmas.{among-append, among-filter, among-left, among-map, among-right, every-among, filter-among, flat_map-among, map-among, rising-filter, rising-map, rising-weaker}
 use Rattle.vt_steps.proofs.lists.Sums.{some-either}
 use Rattle.vt_steps.proofs.letters.Stamped.{Alike}

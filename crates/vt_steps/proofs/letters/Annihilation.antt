@@ -2,17 +2,17 @@
 use Rattle.std.proofs.Common.{◌≡◌, refl, true, false, cond, List, [], ◌∷◌, ◌∙◌, ap, Some, None}
 use Rattle.std.specs.List.{find, list_any}
 use Rattle.std.proofs.lemmas.Bool.{or_parts}
-use Rattle.vt_key.specs.Order.{rank_before}
-use Rattle.vt_key.specs.Queues.{has_stamp, insert_letter, without_first}
+use Rattle.vt_key.specs.promise.Order.{rank_before}
+use Rattle.vt_key.specs.promise.Queues.{has_stamp, insert_letter, without_first}
 use Rattle.vt_key.specs.declared.order.Stamp.{Stamp}
 use Rattle.vt_key.specs.declared.letter.Event.{Event}
 use Rattle.vt_key.specs.declared.letter.Letter.{Letter}
 use Rattle.vt_key.specs.declared.letter.Sign.{Sign}
 use Rattle.vt_key.specs.declared.letter.Sign.TheVariants.{Plus, Minus}
-use Rattle.vt_steps.specs.Letters.{signed}
-use Rattle.vt_steps.specs.World.{LogicalProcess, entry_rank}
-use Rattle.vt_steps.specs.ProcessSteps.{ProcessEffect, holds, are_opposite, with_letter, accept_process, cancel_process}
-use Rattle.vt_steps.specs.Laws.{IsFreeOf, unchanged, Annihilate}
+use Rattle.vt_steps.specs.promise.Letters.{signed}
+use Rattle.vt_steps.specs.promise.World.{LogicalProcess, entry_rank}
+use Rattle.vt_steps.specs.promise.ProcessSteps.{ProcessEffect, holds, are_opposite, with_letter, accept_process, cancel_process}
+use Rattle.vt_steps.specs.inside.Laws.{IsFreeOf, unchanged, Annihilate}
 use Rattle.vt_key.proofs.OrderLemmas.{same-stamp_same, same-key_same}
 use Rattle.vt_steps.proofs.steps.Changes.{unless_has}
 

@@ -6,22 +6,22 @@ use Rattle.std.specs.Option.{option_map_or}
 use Rattle.std.proofs.lemmas.List.Sums.{sum_by-cons, sum_by-append, sum_by-take-drop}
 use Rattle.std.proofs.lemmas.Option.{slice_get_within}
 use Rattle.std.proofs.Math.ListN.{length-set}
-use Rattle.vt_key.specs.Order.{stamp_same}
-use Rattle.vt_key.specs.Queues.{has_stamp, insert_letter, without_first}
+use Rattle.vt_key.specs.promise.Order.{stamp_same}
+use Rattle.vt_key.specs.promise.Queues.{has_stamp, insert_letter, without_first}
 use Rattle.vt_key.specs.declared.letter.Event.{Event}
 use Rattle.vt_key.specs.declared.letter.Letter.{Letter}
 use Rattle.vt_key.specs.declared.letter.Mail.{Mail}
 use Rattle.vt_key.specs.declared.letter.Sign.{Sign}
 use Rattle.vt_key.specs.declared.letter.Sign.TheVariants.{Minus, Plus}
 use Rattle.vt_key.specs.declared.order.Stamp.{Stamp}
-use Rattle.vt_model.specs.Simulation.{Simulation}
+use Rattle.vt_model.specs.promise.Simulation.{Simulation}
 use Rattle.vt_model.specs.declared.sending.Sent.{Sent}
-use Rattle.vt_steps.specs.Copies.{entry_sum, letter_sum, letter_weight, mail_weight, part_entries, part_sum, process_entries, process_sum, serial_at}
-use Rattle.vt_steps.specs.Letters.{signed, stamped, unstamped}
-use Rattle.vt_steps.specs.Next.{with_part}
-use Rattle.vt_steps.specs.PartSteps.{is_below, is_for, mail_of_send, part_after_commit, part_after_cut, part_after_fetch, part_after_send, process_after_commit, with_effect}
-use Rattle.vt_steps.specs.ProcessSteps.{ProcessEffect, effect_of_execute, effect_of_undo, with_letter}
-use Rattle.vt_steps.specs.World.{Entry, LogicalProcess, Part, World, process_at, triple_after}
+use Rattle.vt_steps.specs.inside.Copies.{entry_sum, letter_sum, letter_weight, mail_weight, part_entries, part_sum, process_entries, process_sum, serial_at}
+use Rattle.vt_steps.specs.promise.Letters.{signed, stamped, unstamped}
+use Rattle.vt_steps.specs.promise.Next.{with_part}
+use Rattle.vt_steps.specs.promise.PartSteps.{is_below, is_for, mail_of_send, part_after_commit, part_after_cut, part_after_fetch, part_after_send, process_after_commit, with_effect}
+use Rattle.vt_steps.specs.promise.ProcessSteps.{ProcessEffect, effect_of_execute, effect_of_undo, with_letter}
+use Rattle.vt_steps.specs.promise.World.{Entry, LogicalProcess, Part, World, process_at, triple_after}
 use Rattle.vt_key.proofs.ListLemmas.{find-passes}
 use Rattle.vt_steps.proofs.lists.Places.{get-put_same, get-put_other}
 use Rattle.vt_steps.proofs.lists.Sums.{sum_by-put, sum_by-without_first, sum_by-insert_ordered, sum_by-filters, sum_by-map, sum_by-before_last, sum_by-remove, sum_by-single}

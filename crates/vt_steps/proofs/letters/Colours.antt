@@ -2,15 +2,15 @@
 use Rattle.std.proofs.Common.{◌≡◌, ℕ, ◌+◌, Bool, true, false, cond, List, [], ◌∷◌, map, length, refl, sym, ◌∙◌, ap, arith, add-zero}
 use Rattle.std.specs.List.{sum_by}
 use Rattle.std.proofs.lemmas.List.Sums.{sum_by-cons}
-use Rattle.vt_key.specs.Letters.{other_colour}
-use Rattle.vt_key.specs.Times.{Time}
+use Rattle.vt_key.specs.promise.Letters.{other_colour}
+use Rattle.vt_key.specs.promise.Times.{Time}
 use Rattle.vt_key.specs.declared.letter.Colour.{Colour}
 use Rattle.vt_key.specs.declared.letter.Colour.TheVariants.{White, Red}
 use Rattle.vt_key.specs.declared.letter.Letter.{Letter}
 use Rattle.vt_key.specs.declared.letter.Mail.{Mail}
-use Rattle.vt_steps.specs.Copies.{letter_weight, mail_weight}
-use Rattle.vt_steps.specs.Letters.{Counts, count_of, raised, is_colour, count_colour}
-use Rattle.vt_steps.specs.World.{Part}
+use Rattle.vt_steps.specs.inside.Copies.{letter_weight, mail_weight}
+use Rattle.vt_steps.specs.promise.Letters.{Counts, count_of, raised, is_colour, count_colour}
+use Rattle.vt_steps.specs.promise.World.{Part}
 use Rattle.vt_steps.proofs.time.Early.{early, early_letters, early_mail}
 use Rattle.vt_steps.proofs.lists.Sums.{sum_by-map, sum_by-zero}
 

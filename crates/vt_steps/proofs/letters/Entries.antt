@@ -4,18 +4,18 @@ use Rattle.std.proofs.Common.{◌≡◌, ℕ, ◌+◌, ◌/◌, ◌%◌, ◌≤�
 use Rattle.std.specs.List.{sum_by, flat_map}
 use Rattle.std.specs.Option.{option_and_then}
 use Rattle.std.proofs.lemmas.Bool.{and_parts}
-use Rattle.vt_key.specs.Order.{stamp_same}
+use Rattle.vt_key.specs.promise.Order.{stamp_same}
 use Rattle.vt_key.proofs.OrderLemmas.{stamp_same-true, same-stamp_same}
 use Rattle.vt_key.specs.declared.letter.Event.{Event}
 use Rattle.vt_key.specs.declared.letter.Letter.{Letter}
 use Rattle.vt_key.specs.declared.letter.Sign.{Sign}
 use Rattle.vt_key.specs.declared.letter.Sign.TheVariants.{Plus, Minus}
 use Rattle.vt_key.specs.declared.order.Stamp.{Stamp}
-use Rattle.vt_key.specs.Lists.{Among}
-use Rattle.vt_model.specs.Simulation.{Simulation}
-use Rattle.vt_steps.specs.Claims.{IsProcess}
-use Rattle.vt_steps.specs.Copies.{letter_weight, mail_weight, process_sum, part_sum, letter_sum, process_entries, part_entries, entry_sum, as_count, is_sign, is_copy, of_stamp}
-use Rattle.vt_steps.specs.World.{Entry, LogicalProcess, Part, World, letters_in, all_letters, process_at}
+use Rattle.vt_key.specs.promise.Lists.{Among}
+use Rattle.vt_model.specs.promise.Simulation.{Simulation}
+use Rattle.vt_steps.specs.promise.Claims.{IsProcess}
+use Rattle.vt_steps.specs.inside.Copies.{letter_weight, mail_weight, process_sum, part_sum, letter_sum, process_entries, part_entries, entry_sum, as_count, is_sign, is_copy, of_stamp}
+use Rattle.vt_steps.specs.promise.World.{Entry, LogicalProcess, Part, World, letters_in, all_letters, process_at}
 use Rattle.vt_key.proofs.ListLemmas.{among-left, among-right, among-append, among-flat_map, among-map, every-among, every-append, every-get}
 use Rattle.vt_steps.proofs.lists.Sums.{some-at, some-among, some-either, sum-among, sum-at}
 use Rattle.vt_steps.proofs.steps.Changes.{chain_has}

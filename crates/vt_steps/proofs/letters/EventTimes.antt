@@ -3,16 +3,17 @@ use Rattle.std.proofs.Common.{◌≡◌, false, List, [], ◌∷◌, ◌++◌, r
 use Rattle.std.proofs.lemmas.Bool.Decides.{nat_tests}
 use Rattle.std.proofs.lemmas.List.Elements.{filter-append}
 use Rattle.std.specs.List.{AllByRecursion}
-use Rattle.vt_key.specs.Keys.{Key}
-use Rattle.vt_key.specs.Order.{KeyBefore, RankBefore}
-use Rattle.vt_key.specs.Times.{Time, TimeAtMost, TimeBefore, time_before}
-use Rattle.vt_key.specs.Lists.{IsRisingBy}
+use Rattle.vt_key.specs.promise.Keys.{Key}
+use Rattle.vt_key.specs.promise.Order.{KeyBefore}
+use Rattle.vt_key.specs.inside.Order.{RankBefore}
+use Rattle.vt_key.specs.promise.Times.{Time, TimeAtMost, TimeBefore, time_before}
+use Rattle.vt_key.specs.promise.Lists.{IsRisingBy}
 use Rattle.vt_model.specs.declared.sending.Sent.{Sent}
-use Rattle.vt_model.specs.Histories.{IsRising}
-use Rattle.vt_model.specs.Sequential.{events_before}
+use Rattle.vt_model.specs.inside.Histories.{IsRising}
+use Rattle.vt_model.specs.promise.Sequential.{events_before}
 use Rattle.vt_model.proofs.RunLemmas.{filter-all, filter-no}
-use Rattle.vt_steps.specs.Letters.{unstamped}
-use Rattle.vt_steps.specs.World.{Entry, entry_events}
+use Rattle.vt_steps.specs.promise.Letters.{unstamped}
+use Rattle.vt_steps.specs.promise.World.{Entry, entry_events}
 use Rattle.vt_key.proofs.ListLemmas.{every-among, every-map, every-weaker, rising-weaker}
 use Rattle.vt_steps.proofs.letters.RankTimes.{rank-order-time}
 

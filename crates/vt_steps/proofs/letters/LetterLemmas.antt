@@ -10,22 +10,22 @@ use Rattle.vt_key.specs.declared.letter.Mail.{Mail}
 use Rattle.vt_key.specs.declared.letter.Sign.{Sign}
 use Rattle.vt_key.specs.declared.letter.Sign.TheVariants.{Plus, Minus}
 use Rattle.vt_key.specs.declared.fault.Fault.TheVariants.{NotLawful}
-use Rattle.vt_model.specs.Simulation.{Simulation}
+use Rattle.vt_model.specs.promise.Simulation.{Simulation}
 use Rattle.vt_steps.specs.declared.step.Step.{Step}
 use Rattle.vt_steps.specs.declared.step.Step.TheVariants.{Execute, Undo, Cancel, Home, Send, Fetch, Accept, Cut, Report, Commit, Close}
 use Rattle.vt_steps.specs.declared.step.Reply.TheVariants.{Done}
-use Rattle.vt_steps.specs.Letters.{signed, stamped, unstamped, is_empty}
-use Rattle.vt_steps.specs.World.{Entry, LogicalProcess, Part, Board, Book, World, process_at, triple_after, entry_rank}
-use Rattle.vt_steps.specs.ProcessSteps.{ProcessEffect, may_follow, must_undo, are_opposite, holds, effect_of_execute, effect_of_undo, execute_least, execute_process, undo_process, cancel_process, accept_process}
-use Rattle.vt_steps.specs.PartSteps.{execute, undo, cancel, with_effect, at_process, is_for, deliver, home, accept, part_after_send, mail_of_send, part_after_fetch, part_after_cut, report_least}
-use Rattle.vt_steps.specs.CellSteps.{CellEffect, may_send, send, fetch, cut, report, commit, close}
-use Rattle.vt_steps.specs.Next.{refused, done_or_refused, with_part, with_inbox, with_board, with_book, locally, at_cell, next}
-use Rattle.vt_steps.specs.BoardSteps.{cut_board, may_report}
-use Rattle.vt_steps.specs.BookSteps.{may_commit}
-use Rattle.vt_steps.specs.Copies.{letter_weight, mail_weight, part_sum, letter_sum}
-use Rattle.vt_steps.specs.Laws.{IsMessageExecuted, IsEventUndone, AreBothGone, AreLettersKept, AreLettersRight}
-use Rattle.vt_key.specs.Order.{key_same}
-use Rattle.vt_key.specs.Queues.{has_stamp, without_first}
+use Rattle.vt_steps.specs.promise.Letters.{signed, stamped, unstamped, is_empty}
+use Rattle.vt_steps.specs.promise.World.{Entry, LogicalProcess, Part, Board, Book, World, process_at, triple_after, entry_rank}
+use Rattle.vt_steps.specs.promise.ProcessSteps.{ProcessEffect, may_follow, must_undo, are_opposite, holds, effect_of_execute, effect_of_undo, execute_least, execute_process, undo_process, cancel_process, accept_process}
+use Rattle.vt_steps.specs.promise.PartSteps.{execute, undo, cancel, with_effect, at_process, is_for, deliver, home, accept, part_after_send, mail_of_send, part_after_fetch, part_after_cut, report_least}
+use Rattle.vt_steps.specs.promise.CellSteps.{CellEffect, may_send, send, fetch, cut, report, commit, close}
+use Rattle.vt_steps.specs.promise.Next.{refused, done_or_refused, with_part, with_inbox, with_board, with_book, locally, at_cell, next}
+use Rattle.vt_steps.specs.promise.BoardSteps.{cut_board, may_report}
+use Rattle.vt_steps.specs.promise.BookSteps.{may_commit}
+use Rattle.vt_steps.specs.inside.Copies.{letter_weight, mail_weight, part_sum, letter_sum}
+use Rattle.vt_steps.specs.inside.Laws.{IsMessageExecuted, IsEventUndone, AreBothGone, AreLettersKept, AreLettersRight}
+use Rattle.vt_key.specs.promise.Order.{key_same}
+use Rattle.vt_key.specs.promise.Queues.{has_stamp, without_first}
 use Rattle.vt_key.proofs.OrderLemmas.{key_same-true, stamp_same-true}
 use Rattle.vt_key.proofs.ListLemmas.{find-passes}
 use Rattle.vt_steps.proofs.steps.Changes.{Leaves, homes, arrives, map_has, chain_has, if_has, unless_has, empty_is}

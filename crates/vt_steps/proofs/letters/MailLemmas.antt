@@ -4,13 +4,13 @@ use Rattle.std.specs.List.{sum_by}
 use Rattle.std.proofs.lemmas.List.Sums.{sum_by-append}
 use Rattle.vt_key.specs.declared.letter.Letter.{Letter}
 use Rattle.vt_key.specs.declared.letter.Mail.{Mail}
-use Rattle.vt_model.specs.Simulation.{Simulation}
+use Rattle.vt_model.specs.promise.Simulation.{Simulation}
 use Rattle.vt_steps.specs.declared.step.Step.{Step}
-use Rattle.vt_steps.specs.Letters.{is_colour, count_of, count_colour}
-use Rattle.vt_steps.specs.World.{Part, World}
-use Rattle.vt_steps.specs.PartSteps.{letters_for, part_after_send, mail_of_send, part_after_fetch, part_after_cut, part_after_commit}
-use Rattle.vt_steps.specs.Next.{next}
-use Rattle.vt_steps.specs.Laws.{IsMailKept}
+use Rattle.vt_steps.specs.promise.Letters.{is_colour, count_of, count_colour}
+use Rattle.vt_steps.specs.promise.World.{Part, World}
+use Rattle.vt_steps.specs.promise.PartSteps.{letters_for, part_after_send, mail_of_send, part_after_fetch, part_after_cut, part_after_commit}
+use Rattle.vt_steps.specs.promise.Next.{next}
+use Rattle.vt_steps.specs.inside.Laws.{IsMailKept}
 use Rattle.vt_steps.proofs.lists.Sums.{sum_by-put}
 use Rattle.vt_steps.proofs.letters.Colours.{count_of-raised, count_of-fetched, count_colour-mailed}
 use Rattle.vt_steps.proofs.steps.Changes.{Leaves, homes, arrives, Local, acts, takes, Change, stays, local, sends, fetches, cuts, reports, commits, closes, next_changes}

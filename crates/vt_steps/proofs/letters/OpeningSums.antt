@@ -7,10 +7,10 @@ use Rattle.vt_key.specs.declared.letter.Event.{Event}
 use Rattle.vt_key.specs.declared.letter.Mail.{Mail}
 use Rattle.vt_key.specs.declared.letter.Sign.{Sign}
 use Rattle.vt_key.specs.declared.letter.Sign.TheVariants.{Plus}
-use Rattle.vt_model.specs.Simulation.{Simulation}
-use Rattle.vt_steps.specs.Copies.{letter_weight, mail_weight, process_sum, part_sum, letter_sum, process_entries, part_entries, entry_sum, serial_at}
-use Rattle.vt_steps.specs.Letters.{signed}
-use Rattle.vt_steps.specs.World.{Entry, LogicalProcess, opening_part, opening_world, process_count, start_events, start_sends}
+use Rattle.vt_model.specs.promise.Simulation.{Simulation}
+use Rattle.vt_steps.specs.inside.Copies.{letter_weight, mail_weight, process_sum, part_sum, letter_sum, process_entries, part_entries, entry_sum, serial_at}
+use Rattle.vt_steps.specs.promise.Letters.{signed}
+use Rattle.vt_steps.specs.promise.World.{Entry, LogicalProcess, opening_part, opening_world, process_count, start_events, start_sends}
 use Rattle.vt_steps.proofs.lists.Places.{get-map_range}
 use Rattle.vt_steps.proofs.lists.Sums.{sum_by-map, sum_by-same, sum_by-zero}
 

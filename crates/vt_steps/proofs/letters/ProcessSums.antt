@@ -6,14 +6,14 @@ use Rattle.std.proofs.lemmas.Bool.Decides.{nat_tests}
 use Rattle.std.proofs.lemmas.List.Sums.{sum_by-cons, sum_by-append}
 use Rattle.vt_model.specs.declared.rows.Row.{Row}
 use Rattle.vt_model.specs.declared.sending.Sent.{Sent}
-use Rattle.vt_model.specs.Simulation.{Simulation, Triple, after}
-use Rattle.vt_model.specs.Sequential.{opening, weight, whole_run, events_of, rows_after, fired_after}
-use Rattle.vt_model.specs.Histories.{IsLawful}
+use Rattle.vt_model.specs.promise.Simulation.{Simulation, Triple, after}
+use Rattle.vt_model.specs.promise.Sequential.{opening, weight, whole_run, events_of, rows_after, fired_after}
+use Rattle.vt_model.specs.promise.Histories.{IsLawful}
 use Rattle.vt_model.proofs.RunLemmas.{filter-yes, filter-no, after-snoc, events_of-same, events_of-other, known_sent, lists_of, reached}
-use Rattle.vt_steps.specs.Rows.{rows_from}
-use Rattle.vt_steps.specs.World.{process_at, process_count}
+use Rattle.vt_steps.specs.promise.Rows.{rows_from}
+use Rattle.vt_steps.specs.promise.World.{process_at, process_count}
 use Rattle.std.proofs.Math.Nat.{mod-lt}
-use Rattle.vt_key.specs.Lists.{Among}
+use Rattle.vt_key.specs.promise.Lists.{Among}
 use Rattle.vt_steps.proofs.lists.Sums.{sum_by-same, sum_by-zero}
 use Rattle.vt_steps.proofs.steps.Shape.{own-place, worker-of_place, place-of_place, known-place}
 

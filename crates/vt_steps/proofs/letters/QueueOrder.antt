@@ -4,9 +4,11 @@
 use Rattle.std.proofs.Common.{◌≡◌, inl, inr, ℕ, zero, suc, ◌-◌, ◌/◌, ◌%◌, ◌||◌, Bool, true, false, List, [], ◌∷◌, ◌++◌, length, take, drop, refl, sym, ◌∙◌, ap, subst, Some, slice_get, slice_set}
 use Rattle.std.specs.List.{list_any, prefix_len, range_with_len}
 use Rattle.std.proofs.lemmas.Bool.{cases_Bool}
-use Rattle.vt_key.specs.Order.{RankBefore, rank_before, rank_same}
-use Rattle.vt_key.specs.Lists.{Among, IsRisingBy}
-use Rattle.vt_key.specs.Queues.{has_rank, has_stamp, holds_rank, letter_rank, without_first, IsRising}
+use Rattle.vt_key.specs.promise.Order.{rank_before, rank_same}
+use Rattle.vt_key.specs.inside.Order.{RankBefore}
+use Rattle.vt_key.specs.promise.Lists.{Among, IsRisingBy}
+use Rattle.vt_key.specs.promise.Queues.{has_rank, has_stamp, letter_rank, without_first}
+use Rattle.vt_key.specs.inside.Queues.{holds_rank, IsRising}
 use Rattle.vt_key.specs.declared.letter.Letter.{Letter}
 use Rattle.vt_key.specs.declared.letter.Sign.{Sign}
 use Rattle.vt_key.specs.declared.letter.Sign.TheVariants.{Plus, Minus}
@@ -14,14 +16,15 @@ use Rattle.vt_key.specs.declared.order.Rank.{Rank}
 use Rattle.vt_key.proofs.ListLemmas.{among-append, among-left, among-right, before_last, every-all, every-among, every-without_first, insert_ordered-among, rising-across, rising-append, rising-left}
 use Rattle.vt_key.proofs.OrderLemmas.{rank-irreflexive, rank_same-true, same-rank_same}
 use Rattle.vt_key.proofs.RisingLemmas.{first-false, second-false, IsRising-insert, IsRising-without}
-use Rattle.vt_model.specs.Simulation.{Simulation}
+use Rattle.vt_model.specs.promise.Simulation.{Simulation}
 use Rattle.vt_steps.specs.declared.step.Step.{Step}
-use Rattle.vt_steps.specs.Claims.{DoQueuesRise, IsProcess}
-use Rattle.vt_steps.specs.Letters.{signed, stamped, unstamped}
-use Rattle.vt_steps.specs.Next.{reached}
-use Rattle.vt_steps.specs.PartSteps.{is_below, part_after_commit, part_after_cut, part_after_fetch, part_after_send, process_after_commit, with_effect}
-use Rattle.vt_steps.specs.ProcessSteps.{ProcessEffect, effect_of_execute, effect_of_undo, holds, with_letter}
-use Rattle.vt_steps.specs.World.{Entry, LogicalProcess, Part, World, entry_rank, opening_part, opening_world, process_at, process_count, triple_after}
+use Rattle.vt_steps.specs.promise.Claims.{IsProcess}
+use Rattle.vt_steps.specs.inside.Claims.{DoQueuesRise}
+use Rattle.vt_steps.specs.promise.Letters.{signed, stamped, unstamped}
+use Rattle.vt_steps.specs.promise.Next.{reached}
+use Rattle.vt_steps.specs.promise.PartSteps.{is_below, part_after_commit, part_after_cut, part_after_fetch, part_after_send, process_after_commit, with_effect}
+use Rattle.vt_steps.specs.promise.ProcessSteps.{ProcessEffect, effect_of_execute, effect_of_undo, holds, with_letter}
+use Rattle.vt_steps.specs.promise.World.{Entry, LogicalProcess, Part, World, entry_rank, opening_part, opening_world, process_at, process_count, triple_after}
 use Rattle.vt_steps.proofs.lists.Places.{all-put, get-map, get-replicate}
 use Rattle.vt_steps.proofs.steps.Changes.{Act, executes, undoes, cancels, Leaves, homes, arrives, Local, acts, takes, Change, stays, local, sends, fetches, cuts, reports, commits, closes, run_keeps}
 

@@ -2,8 +2,9 @@
 use Rattle.std.proofs.Common.{◌≡◌, inl, inr, true, false, not, ap, arith}
 use Rattle.std.proofs.lemmas.Bool.{cases_lt}
 use Rattle.std.proofs.lemmas.Bool.Decides.{nat_tests}
-use Rattle.vt_key.specs.Times.{TimeBefore, TimeAtMost}
-use Rattle.vt_key.specs.Order.{RankBefore, rank_before, key_before, key_same}
+use Rattle.vt_key.specs.promise.Times.{TimeBefore, TimeAtMost}
+use Rattle.vt_key.specs.promise.Order.{rank_before, key_before, key_same}
+use Rattle.vt_key.specs.inside.Order.{RankBefore}
 use Rattle.vt_key.specs.declared.order.Rank.{Rank}
 
 -- a lesser rank is not later

@@ -3,13 +3,13 @@ use Rattle.std.proofs.Common.{◌≡◌, inl, inr, ℕ, suc, ◌+◌, ◌≤◌,
 use Rattle.std.specs.List.{sum_by, AllByRecursion}
 use Rattle.std.proofs.lemmas.Bool.{cases_lt}
 use Rattle.std.proofs.lemmas.List.Sums.{sum_by-cons}
-use Rattle.vt_key.specs.Order.{stamp_same}
+use Rattle.vt_key.specs.promise.Order.{stamp_same}
 use Rattle.vt_key.proofs.OrderLemmas.{stamp_same-true}
 use Rattle.vt_key.specs.declared.letter.Event.{Event}
 use Rattle.vt_key.specs.declared.order.Stamp.{Stamp}
 use Rattle.vt_model.specs.declared.sending.Sent.{Sent}
-use Rattle.vt_steps.specs.Copies.{as_count, of_stamp}
-use Rattle.vt_steps.specs.Letters.{stamped, unstamped}
+use Rattle.vt_steps.specs.inside.Copies.{as_count, of_stamp}
+use Rattle.vt_steps.specs.promise.Letters.{stamped, unstamped}
 use Rattle.vt_key.proofs.ListLemmas.{every-weaker, every-both}
 
 -- as many as were sent

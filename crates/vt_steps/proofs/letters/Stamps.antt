@@ -5,18 +5,18 @@ use Rattle.std.specs.List.{sum_by, range_with_len}
 use Rattle.std.proofs.lemmas.Bool.{cases_lt}
 use Rattle.std.proofs.lemmas.Bool.Decides.{eqb_tells}
 use Rattle.std.proofs.lemmas.List.Sums.{sum_by-cons}
-use Rattle.vt_key.specs.Order.{stamp_same}
+use Rattle.vt_key.specs.promise.Order.{stamp_same}
 use Rattle.vt_key.proofs.OrderLemmas.{stamp_same-true}
 use Rattle.vt_key.specs.declared.letter.Event.{Event}
 use Rattle.vt_key.specs.declared.letter.Sign.TheVariants.{Plus, Minus}
 use Rattle.vt_key.specs.declared.order.Stamp.{Stamp}
-use Rattle.vt_model.specs.Simulation.{Simulation}
+use Rattle.vt_model.specs.promise.Simulation.{Simulation}
 use Rattle.vt_steps.specs.declared.step.Step.{Step}
-use Rattle.vt_steps.specs.Claims.{AreCopiesRight}
-use Rattle.vt_steps.specs.Copies.{as_count, of_stamp, is_copy, is_event_of, sent_by, letter_weight, plus, minus, live_count, serial_at, IsMade}
-use Rattle.vt_steps.specs.Letters.{signed, stamped}
-use Rattle.vt_steps.specs.Next.{reached}
-use Rattle.vt_steps.specs.World.{Entry, World, opening_world, start_events, start_sends}
+use Rattle.vt_steps.specs.inside.Claims.{AreCopiesRight}
+use Rattle.vt_steps.specs.inside.Copies.{as_count, of_stamp, is_copy, is_event_of, sent_by, letter_weight, plus, minus, live_count, serial_at, IsMade}
+use Rattle.vt_steps.specs.promise.Letters.{signed, stamped}
+use Rattle.vt_steps.specs.promise.Next.{reached}
+use Rattle.vt_steps.specs.promise.World.{Entry, World, opening_world, start_events, start_sends}
 use Rattle.vt_steps.proofs.lists.Sums.{sum_by-map, sum_by-same, sum_by-single, sum_by-zero, only-at}
 use Rattle.vt_steps.proofs.letters.Stamped.{counted}
 use Rattle.vt_steps.proofs.steps.Changes.{run_keeps}

@@ -3,10 +3,10 @@ use Rattle.std.proofs.Common.{◌≡◌, ℕ, zero, suc, ◌+◌, ◌-◌, ◌�
 use Rattle.std.specs.List.{sum_by, find, filter, last_or, range_with_len, remove}
 use Rattle.std.proofs.lemmas.Bool.{cases_lt}
 use Rattle.std.proofs.lemmas.List.Sums.{sum_by-cons, sum_by-append}
-use Rattle.vt_key.specs.Order.{rank_before}
-use Rattle.vt_key.specs.Queues.{insert_letter, without_first}
+use Rattle.vt_key.specs.promise.Order.{rank_before}
+use Rattle.vt_key.specs.promise.Queues.{insert_letter, without_first}
 use Rattle.vt_key.specs.declared.letter.Letter.{Letter}
-use Rattle.vt_key.specs.Lists.{Among}
+use Rattle.vt_key.specs.promise.Lists.{Among}
 use Rattle.vt_key.proofs.ListLemmas.{before_last, get-among}
 
 -- ---- after one edit

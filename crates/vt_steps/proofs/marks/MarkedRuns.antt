@@ -3,11 +3,11 @@ use Rattle.std.proofs.Common.{◌≡◌, ℕ, Bool, true, false, cond, List, [],
 use Rattle.std.proofs.Common.{eq-eqb, ne_eqb}
 use Rattle.std.proofs.lemmas.List.{append_assoc, append-nil}
 use Rattle.std.specs.List.{AllByRecursion}
-use Rattle.vt_model.specs.Simulation.{Simulation}
+use Rattle.vt_model.specs.promise.Simulation.{Simulation}
 use Rattle.vt_steps.specs.declared.step.Step.{Step}
-use Rattle.vt_steps.specs.Marked.{Marked, Answered, unmarked, marked, IsMarkedRight, own_steps, shown}
-use Rattle.vt_steps.specs.Next.{next, run}
-use Rattle.vt_steps.specs.World.{World, opening_world}
+use Rattle.vt_steps.specs.inside.Marked.{Marked, Answered, unmarked, marked, IsMarkedRight, own_steps, shown}
+use Rattle.vt_steps.specs.promise.Next.{next, run}
+use Rattle.vt_steps.specs.promise.World.{World, opening_world}
 use Rattle.vt_steps.proofs.steps.MemoryLemmas.{run-append}
 
 -- ---- lists

@@ -7,16 +7,16 @@ use Rattle.std.proofs.lemmas.List.Folds.{list_any-append}
 use Rattle.std.proofs.lemmas.Bool.Decides.{nat_tests}
 use Rattle.std.proofs.lemmas.Option.{slice_get_within}
 use Rattle.std.proofs.lemmas.Bool.{or_cases}
-use Rattle.vt_key.specs.Times.{TimeAtMost, TimeBefore}
-use Rattle.vt_model.specs.Histories.{IsLawful}
-use Rattle.vt_model.specs.Simulation.{Simulation}
+use Rattle.vt_key.specs.promise.Times.{TimeAtMost, TimeBefore}
+use Rattle.vt_model.specs.promise.Histories.{IsLawful}
+use Rattle.vt_model.specs.promise.Simulation.{Simulation}
 use Rattle.vt_steps.specs.declared.step.Step.{Step}
 use Rattle.vt_steps.specs.declared.step.Step.TheVariants.{Execute, Undo, Cancel, Home, Send, Fetch, Accept, Cut, Report, Commit, Close}
-use Rattle.vt_steps.specs.BookSteps.{may_close}
-use Rattle.vt_steps.specs.Marked.{Marked, Answered, unmarked, IsMarkedRight, own_steps, shown, own_steps_of, is_close_done, has_closed}
-use Rattle.vt_steps.specs.CellSteps.{close}
-use Rattle.vt_steps.specs.Next.{Outcome, next, run, refused, with_book}
-use Rattle.vt_steps.specs.World.{Part, World, opening_world, book_floor}
+use Rattle.vt_steps.specs.promise.BookSteps.{may_close}
+use Rattle.vt_steps.specs.inside.Marked.{Marked, Answered, unmarked, IsMarkedRight, own_steps, shown, own_steps_of, is_close_done, has_closed}
+use Rattle.vt_steps.specs.promise.CellSteps.{close}
+use Rattle.vt_steps.specs.promise.Next.{Outcome, next, run, refused, with_book}
+use Rattle.vt_steps.specs.promise.World.{Part, World, opening_world, book_floor}
 use Rattle.vt_steps.proofs.steps.Changes.{if_has, map_has}
 use Rattle.vt_steps.proofs.steps.Outcomes.{done_or_refused-either, unless_closed-either}
 use Rattle.vt_steps.proofs.time.Floors.{reached-times, floor-announced, floor-at}

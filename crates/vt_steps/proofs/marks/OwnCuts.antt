@@ -4,22 +4,22 @@ use Rattle.std.specs.Option.{option_map}
 use Rattle.std.specs.List.{AllByRecursion}
 use Rattle.std.proofs.lemmas.Bool.Decides.{eqb_tells}
 use Rattle.std.proofs.lemmas.Bool.{and_parts}
-use Rattle.vt_key.specs.Times.{Time, opening_time}
+use Rattle.vt_key.specs.promise.Times.{Time, opening_time}
 use Rattle.vt_key.specs.declared.fault.Fault.{Fault}
-use Rattle.vt_model.specs.Histories.{IsLawful}
-use Rattle.vt_model.specs.Simulation.{Simulation}
+use Rattle.vt_model.specs.promise.Histories.{IsLawful}
+use Rattle.vt_model.specs.promise.Simulation.{Simulation}
 use Rattle.vt_steps.specs.declared.step.Step.{Step}
 use Rattle.vt_steps.specs.declared.step.Step.TheVariants.{Execute, Undo, Cancel, Home, Send, Fetch, Accept, Cut, Report, Commit, Close}
 use Rattle.vt_steps.specs.declared.step.Reply.{Reply}
 use Rattle.vt_steps.specs.declared.step.Reply.TheVariants.{Done}
-use Rattle.vt_steps.specs.BoardSteps.{is_clear, with_open_round, cut_board, may_report, with_report, after_report}
-use Rattle.vt_steps.specs.Cells.{worker_of}
-use Rattle.vt_steps.specs.Laws.{IsAny}
-use Rattle.vt_steps.specs.Marked.{Marked, Answered, unmarked, IsMarkedRight, own_steps, shown, own_steps_of, cut_by_now, has_cut_since}
-use Rattle.vt_steps.specs.CellSteps.{CellEffect, send, fetch, cut, report, commit, close}
-use Rattle.vt_steps.specs.Next.{effect_in, Outcome, next, refused, with_part, with_inbox, with_board, with_book, at_cell}
-use Rattle.vt_steps.specs.PartSteps.{report_sent, report_got, report_least}
-use Rattle.vt_steps.specs.World.{Part, Board, World, opening_world}
+use Rattle.vt_steps.specs.promise.BoardSteps.{is_clear, with_open_round, cut_board, may_report, with_report, after_report}
+use Rattle.vt_steps.specs.promise.Cells.{worker_of}
+use Rattle.vt_steps.specs.inside.Laws.{IsAny}
+use Rattle.vt_steps.specs.inside.Marked.{Marked, Answered, unmarked, IsMarkedRight, own_steps, shown, own_steps_of, cut_by_now, has_cut_since}
+use Rattle.vt_steps.specs.promise.CellSteps.{CellEffect, send, fetch, cut, report, commit, close}
+use Rattle.vt_steps.specs.promise.Next.{effect_in, Outcome, next, refused, with_part, with_inbox, with_board, with_book, at_cell}
+use Rattle.vt_steps.specs.promise.PartSteps.{report_sent, report_got, report_least}
+use Rattle.vt_steps.specs.promise.World.{Part, Board, World, opening_world}
 use Rattle.vt_steps.proofs.steps.Changes.{if_has, map_has}
 use Rattle.vt_steps.proofs.steps.Outcomes.{at_cell-either, done_or_refused-either, unless_closed-either, with_open_round-either, after_report-either}
 use Rattle.vt_steps.proofs.time.Flags.{none-set}

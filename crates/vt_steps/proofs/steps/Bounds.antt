@@ -1,16 +1,16 @@
 -- AllByRecursion event of a reached world is for a known process, and before the end of the run.
 use Rattle.std.proofs.Common.{ℕ, ◌%◌, ◌<◌, List, sym, subst}
 use Rattle.std.specs.List.{AllByRecursion}
-use Rattle.vt_key.specs.Times.{TimeBefore}
+use Rattle.vt_key.specs.promise.Times.{TimeBefore}
 use Rattle.vt_key.specs.declared.letter.Event.{Event}
-use Rattle.vt_key.specs.Lists.{Among}
-use Rattle.vt_model.specs.Histories.{IsLawful}
-use Rattle.vt_model.specs.Simulation.{Simulation}
+use Rattle.vt_key.specs.promise.Lists.{Among}
+use Rattle.vt_model.specs.promise.Histories.{IsLawful}
+use Rattle.vt_model.specs.promise.Simulation.{Simulation}
 use Rattle.vt_model.specs.declared.sending.Sent.{Sent}
 use Rattle.vt_steps.specs.declared.step.Step.{Step}
-use Rattle.vt_steps.specs.Letters.{stamped, unstamped}
-use Rattle.vt_steps.specs.Next.{reached}
-use Rattle.vt_steps.specs.World.{World, opening_world}
+use Rattle.vt_steps.specs.promise.Letters.{stamped, unstamped}
+use Rattle.vt_steps.specs.promise.Next.{reached}
+use Rattle.vt_steps.specs.promise.World.{World, opening_world}
 use Rattle.vt_steps.proofs.time.Agreement.{start-worker}
 use Rattle.vt_steps.proofs.steps.Changes.{Change, run_keeps}
 use Rattle.vt_steps.proofs.steps.Everywhere.{InWorld, Spread, kept, made, change-spread, events_of_starts, opening-in}

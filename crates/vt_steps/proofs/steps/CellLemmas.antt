@@ -4,16 +4,17 @@ use Rattle.std.specs.Option.{option_map, option_and_then, is_none}
 use Rattle.vt_key.specs.declared.letter.Mail.{Mail}
 use Rattle.vt_key.specs.declared.fault.Fault.{Fault}
 use Rattle.vt_key.specs.declared.fault.Fault.TheVariants.{NotLawful, Closed}
-use Rattle.vt_model.specs.Simulation.{Simulation}
+use Rattle.vt_model.specs.promise.Simulation.{Simulation}
 use Rattle.vt_steps.specs.declared.step.Step.{Step}
 use Rattle.vt_steps.specs.declared.step.Reply.TheVariants.{Done}
-use Rattle.vt_steps.specs.World.{Part, Board, Book, World}
-use Rattle.vt_steps.specs.BookSteps.{unless_closed}
-use Rattle.vt_steps.specs.CellSteps.{CellEffect}
-use Rattle.vt_steps.specs.Actions.{Action, on_part, at_inbox, at_board, at_book, on_book, action_of}
-use Rattle.vt_steps.specs.Next.{effect_in, Outcome, refused, replied, done_or_refused, with_part, with_inbox, with_board, with_book, locally, at_cell, done_in, next}
-use Rattle.vt_steps.specs.Cells.{CellName, inbox_of, board_cell, book_cell, Cell, in_inbox, on_board, in_book, content, with_content, action_worker, action_cell, worker_of, cell_of, is_local, Acted, left_alone, acted_locally, acted_at, acted_close, done_at, act, put_back}
-use Rattle.vt_steps.specs.Laws.{IsAny, ActsOnOneCell, LeavesCells}
+use Rattle.vt_steps.specs.promise.World.{Part, Board, Book, World}
+use Rattle.vt_steps.specs.promise.BookSteps.{unless_closed}
+use Rattle.vt_steps.specs.promise.CellSteps.{CellEffect}
+use Rattle.vt_steps.specs.promise.Actions.{Action, on_part, at_inbox, at_board, at_book, on_book, action_of}
+use Rattle.vt_steps.specs.promise.Next.{effect_in, Outcome, refused, replied, done_or_refused, with_part, with_inbox, with_board, with_book, locally, at_cell, done_in, next}
+use Rattle.vt_steps.specs.promise.Cells.{action_worker, worker_of}
+use Rattle.vt_steps.specs.inside.Cells.{CellName, inbox_of, board_cell, book_cell, Cell, in_inbox, on_board, in_book, content, with_content, action_cell, cell_of, is_local, Acted, left_alone, acted_locally, acted_at, acted_close, done_at, act, put_back}
+use Rattle.vt_steps.specs.inside.Laws.{IsAny, ActsOnOneCell, LeavesCells}
 use Rattle.vt_steps.proofs.steps.Changes.{map_has}
 use Rattle.vt_steps.proofs.steps.Outcomes.{at_cell-found, at_cell-nobody, at_cell-nowhere, unless_closed-either, unless_closed-open}
 

@@ -2,15 +2,15 @@
 use Rattle.std.proofs.Common.{◌≡◌, ℕ, true, false, cond, refl, ◌∙◌, ap, Some, None, slice_get, slice_set}
 use Rattle.std.specs.Option.{option_map}
 use Rattle.vt_key.specs.declared.fault.Fault.TheVariants.{NotLawful, Closed}
-use Rattle.vt_model.specs.Simulation.{Simulation}
+use Rattle.vt_model.specs.promise.Simulation.{Simulation}
 use Rattle.vt_steps.specs.declared.step.Step.TheVariants.{Send, Report, Commit, Close}
 use Rattle.vt_steps.specs.declared.step.Reply.TheVariants.{Done}
-use Rattle.vt_steps.specs.World.{Part, World}
-use Rattle.vt_steps.specs.PartSteps.{report_sent, report_got, report_least, part_after_commit, rows_of_commit}
-use Rattle.vt_steps.specs.BoardSteps.{may_report, with_report, after_report}
-use Rattle.vt_steps.specs.BookSteps.{may_commit, with_rows}
-use Rattle.vt_steps.specs.CellSteps.{send, reported, report, commit, close}
-use Rattle.vt_steps.specs.Next.{effect_in, next, refused, replied, done_or_refused, with_inbox, with_board, with_book, at_cell}
+use Rattle.vt_steps.specs.promise.World.{Part, World}
+use Rattle.vt_steps.specs.promise.PartSteps.{report_sent, report_got, report_least, part_after_commit, rows_of_commit}
+use Rattle.vt_steps.specs.promise.BoardSteps.{may_report, with_report, after_report}
+use Rattle.vt_steps.specs.promise.BookSteps.{may_commit, with_rows}
+use Rattle.vt_steps.specs.promise.CellSteps.{send, reported, report, commit, close}
+use Rattle.vt_steps.specs.promise.Next.{effect_in, next, refused, replied, done_or_refused, with_inbox, with_board, with_book, at_cell}
 use Rattle.vt_steps.proofs.steps.Changes.{with_reported}
 use Rattle.vt_steps.proofs.steps.Outcomes.{at_cell-found, at_cell-nowhere, unless_closed-open, unless_closed-shut}
 

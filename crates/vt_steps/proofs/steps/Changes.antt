@@ -2,20 +2,20 @@
 use Rattle.std.proofs.Common.{◌≡◌, ℕ, ◌/◌, ◌%◌, Bool, true, false, cond, List, [], ◌∷◌, ◌++◌, refl, ◌∙◌, ap, Option, Some, None, slice_get, slice_set}
 use Rattle.std.specs.List.{find, last_or, remove}
 use Rattle.std.specs.Option.{option_map, option_and_then}
-use Rattle.vt_key.specs.Order.{key_same}
-use Rattle.vt_key.specs.Queues.{has_stamp, without_first}
+use Rattle.vt_key.specs.promise.Order.{key_same}
+use Rattle.vt_key.specs.promise.Queues.{has_stamp, without_first}
 use Rattle.vt_key.specs.declared.letter.Letter.{Letter}
 use Rattle.vt_key.specs.declared.letter.Mail.{Mail}
 use Rattle.vt_key.specs.declared.order.Stamp.{Stamp}
-use Rattle.vt_model.specs.Simulation.{Simulation}
-use Rattle.vt_steps.specs.BoardSteps.{cut_board, may_report, with_report}
-use Rattle.vt_steps.specs.BookSteps.{may_commit, may_close, with_rows}
-use Rattle.vt_steps.specs.Letters.{is_empty}
-use Rattle.vt_steps.specs.CellSteps.{CellEffect, close, commit, cut, fetch, may_send, report, reported, send}
-use Rattle.vt_steps.specs.Next.{at_cell, done_or_refused, locally, next, refused, run, with_board, with_book, with_inbox, with_part}
-use Rattle.vt_steps.specs.PartSteps.{at_process, deliver, is_for, mail_of_send, part_after_commit, part_after_cut, part_after_fetch, part_after_send, report_got, report_least, report_sent, rows_of_commit, with_effect, accept, home}
-use Rattle.vt_steps.specs.ProcessSteps.{ProcessEffect, accept_process, are_opposite, cancel_process, effect_of_execute, effect_of_undo, execute_least, holds, may_follow, must_undo, with_letter, undo_process}
-use Rattle.vt_steps.specs.World.{Board, Book, Entry, LogicalProcess, Part, World, process_at, entry_rank}
+use Rattle.vt_model.specs.promise.Simulation.{Simulation}
+use Rattle.vt_steps.specs.promise.BoardSteps.{cut_board, may_report, with_report}
+use Rattle.vt_steps.specs.promise.BookSteps.{may_commit, may_close, with_rows}
+use Rattle.vt_steps.specs.promise.Letters.{is_empty}
+use Rattle.vt_steps.specs.promise.CellSteps.{CellEffect, close, commit, cut, fetch, may_send, report, reported, send}
+use Rattle.vt_steps.specs.promise.Next.{at_cell, done_or_refused, locally, next, refused, run, with_board, with_book, with_inbox, with_part}
+use Rattle.vt_steps.specs.promise.PartSteps.{at_process, deliver, is_for, mail_of_send, part_after_commit, part_after_cut, part_after_fetch, part_after_send, report_got, report_least, report_sent, rows_of_commit, with_effect, accept, home}
+use Rattle.vt_steps.specs.promise.ProcessSteps.{ProcessEffect, accept_process, are_opposite, cancel_process, effect_of_execute, effect_of_undo, execute_least, holds, may_follow, must_undo, with_letter, undo_process}
+use Rattle.vt_steps.specs.promise.World.{Board, Book, Entry, LogicalProcess, Part, World, process_at, entry_rank}
 use Rattle.vt_steps.specs.declared.step.Step.{Step}
 use Rattle.vt_steps.specs.declared.step.Step.TheVariants.{Accept, Cancel, Close, Commit, Cut, Execute, Fetch, Home, Report, Send, Undo}
 use Rattle.vt_steps.proofs.steps.Outcomes.{at_cell-either, done_or_refused-either, locally-either, unless_closed-either}

@@ -7,15 +7,15 @@ use Rattle.vt_key.specs.declared.letter.Letter.{Letter}
 use Rattle.vt_key.specs.declared.letter.Mail.{Mail}
 use Rattle.vt_key.specs.declared.letter.Sign.{Sign}
 use Rattle.vt_key.specs.declared.letter.Sign.TheVariants.{Minus, Plus}
-use Rattle.vt_model.specs.Simulation.{Simulation, Triple}
+use Rattle.vt_model.specs.promise.Simulation.{Simulation, Triple}
 use Rattle.vt_model.specs.declared.sending.Sent.{Sent}
-use Rattle.vt_steps.specs.Letters.{signed, stamped, unstamped}
-use Rattle.vt_key.specs.Order.{rank_before}
-use Rattle.vt_key.specs.Queues.{has_stamp, letter_rank}
-use Rattle.vt_key.specs.Lists.{Among}
-use Rattle.vt_steps.specs.PartSteps.{is_below, is_for, mail_of_send, part_after_commit, part_after_cut, part_after_fetch, part_after_send, process_after_commit, ripe, with_effect}
-use Rattle.vt_steps.specs.ProcessSteps.{ProcessEffect, effect_of_execute, effect_of_undo, with_letter}
-use Rattle.vt_steps.specs.World.{Entry, LogicalProcess, Part, World, all_letters, letters_in, opening_part, opening_world, process_at, process_count, start_events, triple_after}
+use Rattle.vt_steps.specs.promise.Letters.{signed, stamped, unstamped}
+use Rattle.vt_key.specs.promise.Order.{rank_before}
+use Rattle.vt_key.specs.promise.Queues.{has_stamp, letter_rank}
+use Rattle.vt_key.specs.promise.Lists.{Among}
+use Rattle.vt_steps.specs.promise.PartSteps.{is_below, is_for, mail_of_send, part_after_commit, part_after_cut, part_after_fetch, part_after_send, process_after_commit, ripe, with_effect}
+use Rattle.vt_steps.specs.promise.ProcessSteps.{ProcessEffect, effect_of_execute, effect_of_undo, with_letter}
+use Rattle.vt_steps.specs.promise.World.{Entry, LogicalProcess, Part, World, all_letters, letters_in, opening_part, opening_world, process_at, process_count, start_events, triple_after}
 use Rattle.vt_key.proofs.ListLemmas.{every-append, every-drop, every-filter, every-find, every-flat_map, every-among, every-get, every-insert_ordered, every-last, every-map, every-put, every-remove, every-replicate, every-take, every-unflat_map, every-weaker, every-without_first}
 use Rattle.vt_steps.proofs.lists.Places.{get-put_same}
 use Rattle.vt_steps.proofs.letters.Stamped.{length-stamped}

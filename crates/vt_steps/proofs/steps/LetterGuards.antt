@@ -4,8 +4,8 @@ use Rattle.std.proofs.Common.{◌≡◌, inl, inr, ℕ, ◌+◌, ◌/◌, ◌%�
 use Rattle.std.specs.List.{sum_by, find, list_any, remove}
 use Rattle.std.specs.Option.{option_map, option_and_then}
 use Rattle.std.proofs.lemmas.Bool.{eqb-true, or_cases, and_parts}
-use Rattle.vt_key.specs.Order.{key_same, rank_same, stamp_same}
-use Rattle.vt_key.specs.Queues.{has_rank, without_first}
+use Rattle.vt_key.specs.promise.Order.{key_same, rank_same, stamp_same}
+use Rattle.vt_key.specs.promise.Queues.{has_rank, without_first}
 use Rattle.vt_key.proofs.OrderLemmas.{same-stamp_same}
 use Rattle.vt_key.specs.declared.letter.Event.{Event}
 use Rattle.vt_key.specs.declared.letter.Letter.{Letter}
@@ -14,17 +14,17 @@ use Rattle.vt_key.specs.declared.letter.Sign.{Sign}
 use Rattle.vt_key.specs.declared.letter.Sign.TheVariants.{Plus, Minus}
 use Rattle.vt_key.specs.declared.order.Rank.{Rank}
 use Rattle.vt_key.specs.declared.order.Stamp.{Stamp}
-use Rattle.vt_key.specs.Lists.{Among}
-use Rattle.vt_model.specs.Histories.{IsLawful}
-use Rattle.vt_model.specs.Simulation.{Simulation}
+use Rattle.vt_key.specs.promise.Lists.{Among}
+use Rattle.vt_model.specs.promise.Histories.{IsLawful}
+use Rattle.vt_model.specs.promise.Simulation.{Simulation}
 use Rattle.vt_steps.specs.declared.step.Reply.TheVariants.{Done}
 use Rattle.vt_steps.specs.declared.step.Step.{Step}
 use Rattle.vt_steps.specs.declared.step.Step.TheVariants.{Home, Accept}
-use Rattle.vt_steps.specs.Copies.{as_count, entry_sum, is_copy, is_event_of, letter_sum, letter_weight, mail_weight, minus, part_entries, part_sum, plus, process_entries, process_sum}
-use Rattle.vt_steps.specs.Next.{done_or_refused, next, reached, with_part}
-use Rattle.vt_steps.specs.PartSteps.{accept, deliver, home, is_for, with_effect}
-use Rattle.vt_steps.specs.ProcessSteps.{accept_process, holds, with_letter}
-use Rattle.vt_steps.specs.World.{Entry, LogicalProcess, Part, World, entry_rank}
+use Rattle.vt_steps.specs.inside.Copies.{as_count, entry_sum, is_copy, is_event_of, letter_sum, letter_weight, mail_weight, minus, part_entries, part_sum, plus, process_entries, process_sum}
+use Rattle.vt_steps.specs.promise.Next.{done_or_refused, next, reached, with_part}
+use Rattle.vt_steps.specs.promise.PartSteps.{accept, deliver, home, is_for, with_effect}
+use Rattle.vt_steps.specs.promise.ProcessSteps.{accept_process, holds, with_letter}
+use Rattle.vt_steps.specs.promise.World.{Entry, LogicalProcess, Part, World, entry_rank}
 use Rattle.vt_key.proofs.ListLemmas.{every-among, every-get, find-among, find-passes, get-among}
 use Rattle.vt_steps.proofs.lists.Sums.{sum-among, sum-at}
 use Rattle.vt_steps.proofs.steps.Shape.{known-process, reached-shape}

@@ -5,17 +5,18 @@ use Rattle.std.specs.Option.{option_map, is_none}
 use Rattle.std.specs.List.{AllByRecursion}
 use Rattle.std.proofs.lemmas.Bool.Decides.{eqb_tells}
 use Rattle.std.proofs.lemmas.List.{map-append}
-use Rattle.vt_model.specs.Simulation.{Simulation}
+use Rattle.vt_model.specs.promise.Simulation.{Simulation}
 use Rattle.vt_steps.specs.declared.step.Step.{Step}
 use Rattle.vt_steps.specs.declared.step.Reply.{Reply}
 use Rattle.vt_steps.specs.declared.step.Reply.TheVariants.{Done}
-use Rattle.vt_steps.specs.Cells.{CellName, inbox_of, board_cell, book_cell, Cell, in_inbox, on_board, in_book, content, with_content, action_worker, action_cell, worker_of, cell_of, is_local, Acted, left_alone, acted_locally, acted_at, acted_close, local_rule, done_at, act, put_back, if_own, local_step, local_steps}
-use Rattle.vt_steps.specs.Laws.{IsAny, IsRefused, ActsOnOneCell}
-use Rattle.vt_steps.specs.Marked.{Marked, Made, answered, unmarked, marked, made_done, IsMarkedRight, own_steps, DoesSo, Leads}
-use Rattle.vt_steps.specs.CellSteps.{CellEffect}
-use Rattle.vt_steps.specs.Actions.{Action, on_part, at_inbox, at_board, at_book, on_book, action_of}
-use Rattle.vt_steps.specs.Next.{done_in, next, run, refused, with_book}
-use Rattle.vt_steps.specs.World.{Part, Book, World}
+use Rattle.vt_steps.specs.promise.Cells.{action_worker, worker_of}
+use Rattle.vt_steps.specs.inside.Cells.{CellName, inbox_of, board_cell, book_cell, Cell, in_inbox, on_board, in_book, content, with_content, action_cell, cell_of, is_local, Acted, left_alone, acted_locally, acted_at, acted_close, local_rule, done_at, act, put_back, if_own, local_step, local_steps}
+use Rattle.vt_steps.specs.inside.Laws.{IsAny, IsRefused, ActsOnOneCell}
+use Rattle.vt_steps.specs.inside.Marked.{Marked, Made, answered, unmarked, marked, made_done, IsMarkedRight, own_steps, DoesSo, Leads}
+use Rattle.vt_steps.specs.promise.CellSteps.{CellEffect}
+use Rattle.vt_steps.specs.promise.Actions.{Action, on_part, at_inbox, at_board, at_book, on_book, action_of}
+use Rattle.vt_steps.specs.promise.Next.{done_in, next, run, refused, with_book}
+use Rattle.vt_steps.specs.promise.World.{Part, Book, World}
 use Rattle.vt_steps.proofs.steps.CellLemmas.{next-acts_on_one_cell}
 use Rattle.vt_steps.proofs.steps.Changes.{map_has, chain_has}
 use Rattle.vt_steps.proofs.steps.Outcomes.{done_or_refused-either, unless_closed-either}

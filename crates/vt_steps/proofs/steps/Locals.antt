@@ -1,13 +1,14 @@
 -- A local step changes the part of one worker alone.
 use Rattle.std.proofs.Common.{◌≡◌, ℕ, true, false, refl, sym, ◌∙◌, ap, Option, Some, None, slice_get, IsTrue}
 use Rattle.std.specs.Option.{option_map, option_and_then, is_none}
-use Rattle.vt_model.specs.Simulation.{Simulation}
+use Rattle.vt_model.specs.promise.Simulation.{Simulation}
 use Rattle.vt_steps.specs.declared.step.Step.{Step}
-use Rattle.vt_steps.specs.World.{Part, World}
-use Rattle.vt_steps.specs.Actions.{Action, on_part, at_inbox, at_board, at_book, on_book, action_of}
-use Rattle.vt_steps.specs.Next.{done_or_refused, with_part, locally, done_in, next}
-use Rattle.vt_steps.specs.Cells.{action_worker, action_cell, is_local}
-use Rattle.vt_steps.specs.Laws.{ChangesOnePart}
+use Rattle.vt_steps.specs.promise.World.{Part, World}
+use Rattle.vt_steps.specs.promise.Actions.{Action, on_part, at_inbox, at_board, at_book, on_book, action_of}
+use Rattle.vt_steps.specs.promise.Next.{done_or_refused, with_part, locally, done_in, next}
+use Rattle.vt_steps.specs.promise.Cells.{action_worker}
+use Rattle.vt_steps.specs.inside.Cells.{action_cell, is_local}
+use Rattle.vt_steps.specs.inside.Laws.{ChangesOnePart}
 use Rattle.vt_steps.proofs.lists.Places.{get-put_other}
 
 -- only the part of w is another

@@ -3,14 +3,14 @@ use Rattle.std.proofs.Common.{◌≡◌, ℕ, List, [], ◌∷◌, ◌++◌, map
 use Rattle.std.proofs.lemmas.List.{map-append}
 use Rattle.std.proofs.lemmas.List.Sums.{fold-append}
 use Rattle.vt_key.specs.declared.fault.Fault.{Fault}
-use Rattle.vt_model.specs.Simulation.{Simulation, Triple}
+use Rattle.vt_model.specs.promise.Simulation.{Simulation, Triple}
 use Rattle.vt_model.proofs.RunLemmas.{after_from}
 use Rattle.vt_steps.specs.declared.step.Step.{Step}
 use Rattle.vt_steps.specs.declared.step.Reply.{Reply}
-use Rattle.vt_steps.specs.Letters.{unstamped}
-use Rattle.vt_steps.specs.World.{Entry, LogicalProcess, World, entry_events, triple_after, opening_world}
-use Rattle.vt_steps.specs.Next.{next, run, reached}
-use Rattle.vt_steps.specs.StandsFor.{Remembered, ProcessMemory, WorldMemory, entry_of, fired_at, IsRemembered, LeadTo, StandsForProcess, StandsFor, GoesOn, RunsTo, StandsForReached}
+use Rattle.vt_steps.specs.promise.Letters.{unstamped}
+use Rattle.vt_steps.specs.promise.World.{Entry, LogicalProcess, World, entry_events, triple_after, opening_world}
+use Rattle.vt_steps.specs.promise.Next.{next, run, reached}
+use Rattle.vt_steps.specs.inside.StandsFor.{Remembered, ProcessMemory, WorldMemory, entry_of, fired_at, IsRemembered, LeadTo, StandsForProcess, StandsFor, GoesOn, RunsTo, StandsForReached}
 
 module _ {S P : Type 0} (sim : Simulation S P) (p : ℕ) where
   -- where remembered entries lead is where the process stands after their events

@@ -2,15 +2,15 @@
 use Rattle.std.proofs.Common.{◌≡◌, inl, inr, ℕ, Bool, true, false, not, cond, nat_eq, refl, sym, ◌∙◌, ap, subst, Option, Some, None, slice_get}
 use Rattle.std.specs.Option.{option_map, option_and_then}
 use Rattle.std.proofs.lemmas.Bool.Decides.{eqb_tells}
-use Rattle.vt_key.specs.Times.{Time}
+use Rattle.vt_key.specs.promise.Times.{Time}
 use Rattle.vt_key.specs.declared.fault.Fault.{Fault}
 use Rattle.vt_key.specs.declared.fault.Fault.TheVariants.{NotLawful, Closed}
 use Rattle.vt_steps.specs.declared.step.Reply.TheVariants.{Done, Waiting, Again, Announced}
-use Rattle.vt_steps.specs.World.{Part, Board, Book, World}
-use Rattle.vt_steps.specs.BoardSteps.{all_set, with_new_pass, with_new_round, with_announcement, with_open_round, BoardEffect, after_report}
-use Rattle.vt_steps.specs.BookSteps.{unless_closed}
-use Rattle.vt_steps.specs.CellSteps.{CellEffect}
-use Rattle.vt_steps.specs.Next.{Outcome, refused, replied, done_or_refused, with_part, locally, effect_in, at_cell}
+use Rattle.vt_steps.specs.promise.World.{Part, Board, Book, World}
+use Rattle.vt_steps.specs.promise.BoardSteps.{all_set, with_new_pass, with_new_round, with_announcement, with_open_round, BoardEffect, after_report}
+use Rattle.vt_steps.specs.promise.BookSteps.{unless_closed}
+use Rattle.vt_steps.specs.promise.CellSteps.{CellEffect}
+use Rattle.vt_steps.specs.promise.Next.{Outcome, refused, replied, done_or_refused, with_part, locally, effect_in, at_cell}
 
 -- ---- where the part and what the cell holds are not known
 

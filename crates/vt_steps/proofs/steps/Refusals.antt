@@ -1,23 +1,23 @@
 -- How a step ends: refused, with nothing changed, or done.
 use Rattle.std.proofs.Common.{◌≡◌, ℕ, ◌⊎◌, inl, inr, ◌/◌, ◌%◌, true, refl, sym, ◌∙◌, ap, subst, Option, Some, None, Ok, Err, slice_get}
 use Rattle.std.specs.Option.{option_map, option_and_then}
-use Rattle.vt_key.specs.Times.{Time}
+use Rattle.vt_key.specs.promise.Times.{Time}
 use Rattle.vt_key.specs.declared.fault.Fault.{Fault}
 use Rattle.vt_key.specs.declared.fault.Fault.TheVariants.{NotLawful, Closed}
-use Rattle.vt_model.specs.Simulation.{Simulation}
+use Rattle.vt_model.specs.promise.Simulation.{Simulation}
 use Rattle.vt_steps.specs.declared.step.Step.{Step}
 use Rattle.vt_steps.specs.declared.step.Step.TheVariants.{Execute, Undo, Cancel, Home, Send, Fetch, Accept, Cut, Report, Commit, Close}
 use Rattle.vt_steps.specs.declared.step.Reply.{Reply}
 use Rattle.vt_steps.specs.declared.step.Reply.TheVariants.{Done, Announced}
-use Rattle.vt_steps.specs.World.{Part, Board, World}
-use Rattle.vt_steps.specs.PartSteps.{execute, undo, cancel, home, accept, report_sent, report_got, report_least}
-use Rattle.vt_steps.specs.BoardSteps.{cut_board, may_report, with_report, after_report}
-use Rattle.vt_steps.specs.BookSteps.{may_commit, unless_closed}
-use Rattle.vt_steps.specs.CellSteps.{CellEffect, may_send, send, fetch, cut, report, commit, close}
-use Rattle.vt_steps.specs.Next.{Outcome, refused, replied, done_or_refused, with_part, with_inbox, with_board, with_book, locally, at_cell, next}
-use Rattle.vt_steps.specs.Cells.{inbox_of, board_cell, book_cell, cell_of}
-use Rattle.vt_steps.specs.Laws.{IsReportReply, IsReplyRight, IsRefusalRight}
-use Rattle.vt_steps.specs.Letters.{is_empty}
+use Rattle.vt_steps.specs.promise.World.{Part, Board, World}
+use Rattle.vt_steps.specs.promise.PartSteps.{execute, undo, cancel, home, accept, report_sent, report_got, report_least}
+use Rattle.vt_steps.specs.promise.BoardSteps.{cut_board, may_report, with_report, after_report}
+use Rattle.vt_steps.specs.promise.BookSteps.{may_commit, unless_closed}
+use Rattle.vt_steps.specs.promise.CellSteps.{CellEffect, may_send, send, fetch, cut, report, commit, close}
+use Rattle.vt_steps.specs.promise.Next.{Outcome, refused, replied, done_or_refused, with_part, with_inbox, with_board, with_book, locally, at_cell, next}
+use Rattle.vt_steps.specs.inside.Cells.{inbox_of, board_cell, book_cell, cell_of}
+use Rattle.vt_steps.specs.inside.Laws.{IsReportReply, IsReplyRight, IsRefusalRight}
+use Rattle.vt_steps.specs.promise.Letters.{is_empty}
 use Rattle.vt_steps.proofs.steps.Changes.{if_has, map_has}
 use Rattle.vt_steps.proofs.steps.Outcomes.{at_cell-either, unless_closed-either, after_report-either, unless_closed-shut}
 

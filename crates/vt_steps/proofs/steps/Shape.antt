@@ -8,13 +8,13 @@ use Rattle.std.proofs.lemmas.Nat.{mod-mul-add, div-mul-add}
 use Rattle.std.proofs.lemmas.List.{length-map, length-replicate}
 use Rattle.std.proofs.lemmas.List.FromFn.{length-map-range_with_len}
 use Rattle.std.proofs.lemmas.Option.{slice_get_within}
-use Rattle.vt_model.specs.Simulation.{Simulation}
+use Rattle.vt_model.specs.promise.Simulation.{Simulation}
 use Rattle.vt_steps.specs.declared.step.Step.{Step}
-use Rattle.vt_steps.specs.Claims.{HasEach}
-use Rattle.vt_steps.specs.Next.{reached}
+use Rattle.vt_steps.specs.inside.Claims.{HasEach}
+use Rattle.vt_steps.specs.promise.Next.{reached}
 use Rattle.vt_key.specs.declared.letter.Letter.{Letter}
-use Rattle.vt_steps.specs.World.{LogicalProcess, Part, World, process_at, process_count, opening_part, opening_world}
-use Rattle.vt_steps.specs.PartSteps.{part_after_commit, part_after_cut, part_after_fetch, part_after_send}
+use Rattle.vt_steps.specs.promise.World.{LogicalProcess, Part, World, process_at, process_count, opening_part, opening_world}
+use Rattle.vt_steps.specs.promise.PartSteps.{part_after_commit, part_after_cut, part_after_fetch, part_after_send}
 use Rattle.vt_steps.proofs.lists.Places.{all-put, get-map, get-range, get-within}
 use Rattle.vt_steps.proofs.steps.Changes.{Leaves, homes, arrives, Local, acts, takes, Change, stays, local, sends, fetches, cuts, reports, commits, closes, run_keeps}
 

@@ -5,17 +5,17 @@ use Rattle.std.proofs.Math.Nat.{le_refl}
 use Rattle.std.proofs.lemmas.Bool.Decides.{nat_tests}
 use Rattle.std.proofs.lemmas.Option.{slice_get_within}
 use Rattle.std.proofs.lemmas.Bool.{and_from}
-use Rattle.vt_key.specs.Times.{TimeAtMost, opening_time, time_at_most}
-use Rattle.vt_model.specs.Simulation.{Simulation}
+use Rattle.vt_key.specs.promise.Times.{TimeAtMost, opening_time, time_at_most}
+use Rattle.vt_model.specs.promise.Simulation.{Simulation}
 use Rattle.vt_steps.specs.declared.step.Reply.TheVariants.{Done}
 use Rattle.vt_steps.specs.declared.step.Step.TheVariants.{Report, Commit}
-use Rattle.vt_steps.specs.BoardSteps.{all_set, is_clear, may_report}
-use Rattle.vt_steps.specs.BookSteps.{may_commit}
-use Rattle.vt_steps.specs.Claims.{IsTaken}
-use Rattle.vt_steps.specs.Next.{next}
+use Rattle.vt_steps.specs.promise.BoardSteps.{all_set, is_clear, may_report}
+use Rattle.vt_steps.specs.promise.BookSteps.{may_commit}
+use Rattle.vt_steps.specs.inside.Claims.{IsTaken}
+use Rattle.vt_steps.specs.promise.Next.{next}
 use Rattle.vt_steps.proofs.steps.CellSteps.{next-report, next-commit}
-use Rattle.vt_steps.specs.PartSteps.{report_least}
-use Rattle.vt_steps.specs.World.{Part, World, letters_in}
+use Rattle.vt_steps.specs.promise.PartSteps.{report_least}
+use Rattle.vt_steps.specs.promise.World.{Part, World, letters_in}
 use Rattle.vt_steps.proofs.time.Early.{early_in, at-most-least, letters-early}
 use Rattle.vt_steps.proofs.time.Floors.{AreTimesSound}
 use Rattle.vt_steps.proofs.lists.Places.{get-within}

@@ -3,14 +3,14 @@ use Rattle.std.proofs.Common.{◌≡◌, ℕ, ◌+◌, ◌≤◌, ◌<◌, List,
 use Rattle.std.specs.List.{range_with_len, AllByRecursion}
 use Rattle.std.specs.Option.{option_map_or}
 use Rattle.vt_key.specs.declared.letter.Event.{Event}
-use Rattle.vt_key.specs.Lists.{Among}
-use Rattle.vt_model.specs.Simulation.{Simulation}
+use Rattle.vt_key.specs.promise.Lists.{Among}
+use Rattle.vt_model.specs.promise.Simulation.{Simulation}
 use Rattle.vt_model.specs.declared.sending.Sent.{Sent}
 use Rattle.vt_steps.specs.declared.step.Step.{Step}
-use Rattle.vt_steps.specs.Copies.{serial_at}
-use Rattle.vt_steps.specs.Letters.{stamped}
-use Rattle.vt_steps.specs.Next.{reached}
-use Rattle.vt_steps.specs.World.{Part, World, opening_world, start_events, start_sends}
+use Rattle.vt_steps.specs.inside.Copies.{serial_at}
+use Rattle.vt_steps.specs.promise.Letters.{stamped}
+use Rattle.vt_steps.specs.promise.Next.{reached}
+use Rattle.vt_steps.specs.promise.World.{Part, World, opening_world, start_events, start_sends}
 use Rattle.vt_key.proofs.ListLemmas.{every-all, every-among, every-both, every-weaker, flat_map-among, range-among}
 use Rattle.vt_steps.proofs.letters.Stamped.{IsStamped, stamped-each, Alike, stamped-alike}
 use Rattle.vt_steps.proofs.steps.Changes.{Change, run_keeps}

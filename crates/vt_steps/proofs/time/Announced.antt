@@ -6,19 +6,19 @@ use Rattle.std.proofs.lemmas.List.{length-replicate}
 use Rattle.std.proofs.lemmas.List.FromFn.{length-map-range_with_len}
 use Rattle.std.proofs.lemmas.List.Folds.{sum_by-replicate}
 use Rattle.std.proofs.lemmas.List.Sums.{sum_by-cons}
-use Rattle.vt_key.specs.Times.{Time, TimeAtMost, opening_time}
+use Rattle.vt_key.specs.promise.Times.{Time, TimeAtMost, opening_time}
 use Rattle.vt_key.specs.declared.letter.Colour.{Colour}
 use Rattle.vt_key.specs.declared.letter.Colour.TheVariants.{White, Red}
 use Rattle.vt_key.specs.declared.letter.Letter.{Letter}
 use Rattle.vt_key.specs.declared.letter.Mail.{Mail}
 use Rattle.vt_key.specs.declared.letter.Sign.TheVariants.{Plus}
-use Rattle.vt_model.specs.Simulation.{Simulation}
-use Rattle.vt_model.specs.Histories.{IsLawful}
-use Rattle.vt_steps.specs.BoardSteps.{is_clear, with_open_round, with_report, after_report}
-use Rattle.vt_steps.specs.Copies.{letter_weight, part_entries, letter_sum, entry_sum}
-use Rattle.vt_steps.specs.Letters.{signed, count_colour}
-use Rattle.vt_steps.specs.PartSteps.{part_after_send, part_after_fetch, part_after_cut, part_after_commit, report_sent, report_got, report_least}
-use Rattle.vt_steps.specs.World.{Part, World, opening_part, opening_world, start_events, all_letters, least}
+use Rattle.vt_model.specs.promise.Simulation.{Simulation}
+use Rattle.vt_model.specs.promise.Histories.{IsLawful}
+use Rattle.vt_steps.specs.promise.BoardSteps.{is_clear, with_open_round, with_report, after_report}
+use Rattle.vt_steps.specs.inside.Copies.{letter_weight, part_entries, letter_sum, entry_sum}
+use Rattle.vt_steps.specs.promise.Letters.{signed, count_colour}
+use Rattle.vt_steps.specs.promise.PartSteps.{part_after_send, part_after_fetch, part_after_cut, part_after_commit, report_sent, report_got, report_least}
+use Rattle.vt_steps.specs.promise.World.{Part, World, opening_part, opening_world, start_events, all_letters, least}
 use Rattle.vt_steps.proofs.letters.Balance.{commit-balance}
 use Rattle.vt_steps.proofs.steps.Changes.{Change, stays, local, sends, fetches, cuts, reports, commits, closes, if_has}
 use Rattle.vt_steps.proofs.letters.Colours.{sent_in, got_in}

@@ -4,14 +4,14 @@ use Rattle.std.specs.List.{sum_by, flat_map}
 use Rattle.std.proofs.lemmas.Bool.{cases_lt}
 use Rattle.std.proofs.lemmas.Bool.Decides.{nat_tests}
 use Rattle.std.proofs.lemmas.List.Sums.{sum_by-cons, sum_by-append}
-use Rattle.vt_key.specs.Times.{Time, TimeAtMost, time_before}
+use Rattle.vt_key.specs.promise.Times.{Time, TimeAtMost, time_before}
 use Rattle.vt_key.specs.declared.letter.Event.{Event}
 use Rattle.vt_key.specs.declared.letter.Letter.{Letter}
 use Rattle.vt_key.specs.declared.letter.Mail.{Mail}
 use Rattle.vt_key.specs.declared.letter.Sign.{Sign}
-use Rattle.vt_steps.specs.Copies.{as_count, letter_weight, mail_weight, process_sum, part_sum}
-use Rattle.vt_steps.specs.Letters.{least_time}
-use Rattle.vt_steps.specs.World.{LogicalProcess, Part, World, letters_in, all_letters}
+use Rattle.vt_steps.specs.inside.Copies.{as_count, letter_weight, mail_weight, process_sum, part_sum}
+use Rattle.vt_steps.specs.promise.Letters.{least_time}
+use Rattle.vt_steps.specs.promise.World.{LogicalProcess, Part, World, letters_in, all_letters}
 use Rattle.vt_steps.proofs.lists.Sums.{sum_by-map}
 
 -- 1 for an event before a time, 0 for the others

@@ -5,22 +5,22 @@ use Rattle.std.specs.List.{sum_by, list_any}
 use Rattle.std.proofs.lemmas.Bool.Decides.{nat_tests}
 use Rattle.std.proofs.lemmas.List.Sums.{sum_by-cons}
 use Rattle.std.proofs.lemmas.Bool.{or_cases}
-use Rattle.vt_key.specs.Order.{rank_before}
-use Rattle.vt_key.specs.Times.{Time, TimeBefore, TimeAtMost, time_at_most}
-use Rattle.vt_key.specs.Queues.{has_stamp, without_first}
+use Rattle.vt_key.specs.promise.Order.{rank_before}
+use Rattle.vt_key.specs.promise.Times.{Time, TimeBefore, TimeAtMost, time_at_most}
+use Rattle.vt_key.specs.promise.Queues.{has_stamp, without_first}
 use Rattle.vt_key.specs.declared.letter.Event.{Event}
 use Rattle.vt_key.specs.declared.letter.Letter.{Letter}
 use Rattle.vt_key.specs.declared.letter.Sign.{Sign}
 use Rattle.vt_key.specs.declared.letter.Sign.TheVariants.{Plus, Minus}
-use Rattle.vt_key.specs.Lists.{Among}
+use Rattle.vt_key.specs.promise.Lists.{Among}
 use Rattle.vt_model.specs.declared.sending.Sent.{Sent}
-use Rattle.vt_model.specs.Simulation.{Simulation, Triple}
-use Rattle.vt_model.specs.Histories.{IsLawful}
-use Rattle.vt_steps.specs.Copies.{as_count, letter_weight, process_sum, process_entries, part_entries}
-use Rattle.vt_steps.specs.Letters.{signed, stamped, unstamped}
-use Rattle.vt_steps.specs.PartSteps.{with_effect}
-use Rattle.vt_steps.specs.ProcessSteps.{ProcessEffect, effect_of_execute, effect_of_undo}
-use Rattle.vt_steps.specs.World.{Entry, LogicalProcess, Part, process_at, triple_after}
+use Rattle.vt_model.specs.promise.Simulation.{Simulation, Triple}
+use Rattle.vt_model.specs.promise.Histories.{IsLawful}
+use Rattle.vt_steps.specs.inside.Copies.{as_count, letter_weight, process_sum, process_entries, part_entries}
+use Rattle.vt_steps.specs.promise.Letters.{signed, stamped, unstamped}
+use Rattle.vt_steps.specs.promise.PartSteps.{with_effect}
+use Rattle.vt_steps.specs.promise.ProcessSteps.{ProcessEffect, effect_of_execute, effect_of_undo}
+use Rattle.vt_steps.specs.promise.World.{Entry, LogicalProcess, Part, process_at, triple_after}
 use Rattle.vt_steps.proofs.letters.Balance.{effect-balance, execute-balance, undo-balance, cancel-balance, takes-balance}
 use Rattle.vt_steps.proofs.steps.Changes.{Act, executes, undoes, cancels, homes, arrives, Local, acts, takes}
 use Rattle.vt_steps.proofs.time.Early.{early, early_in, early_letters, not-early, late-none}

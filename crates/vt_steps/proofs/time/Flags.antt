@@ -4,9 +4,9 @@ use Rattle.std.specs.List.{sum_by}
 use Rattle.std.proofs.lemmas.Bool.{and_parts}
 use Rattle.std.proofs.lemmas.Bool.Decides.{eqb_tells, nat_tests}
 use Rattle.std.proofs.lemmas.List.Sums.{sum_by-cons}
-use Rattle.vt_key.specs.Times.{Time, TimeAtMost, time_at_most}
-use Rattle.vt_steps.specs.World.{Board}
-use Rattle.vt_steps.specs.BoardSteps.{all_set, is_clear, may_report}
+use Rattle.vt_key.specs.promise.Times.{Time, TimeAtMost, time_at_most}
+use Rattle.vt_steps.specs.promise.World.{Board}
+use Rattle.vt_steps.specs.promise.BoardSteps.{all_set, is_clear, may_report}
 use Rattle.vt_steps.proofs.lists.Places.{get-put_same, get-put_other}
 
 -- ---- sums over those whose flag is set

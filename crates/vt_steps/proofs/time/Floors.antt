@@ -8,16 +8,16 @@ use Rattle.std.proofs.lemmas.List.{length-replicate}
 use Rattle.std.proofs.lemmas.List.FromFn.{length-map-range_with_len}
 use Rattle.std.proofs.lemmas.Bool.{eqb-true}
 use Rattle.std.proofs.lemmas.Bool.Decides.{nat_tests}
-use Rattle.vt_key.specs.Times.{Time, TimeAtMost, opening_time, time_at_most}
-use Rattle.vt_model.specs.Simulation.{Simulation}
-use Rattle.vt_model.specs.Histories.{IsLawful}
+use Rattle.vt_key.specs.promise.Times.{Time, TimeAtMost, opening_time, time_at_most}
+use Rattle.vt_model.specs.promise.Simulation.{Simulation}
+use Rattle.vt_model.specs.promise.Histories.{IsLawful}
 use Rattle.vt_steps.specs.declared.step.Step.{Step}
-use Rattle.vt_steps.specs.BoardSteps.{is_clear, with_open_round, with_report, after_report}
-use Rattle.vt_steps.specs.BookSteps.{may_commit, with_rows}
-use Rattle.vt_steps.specs.Next.{next, run, reached}
-use Rattle.vt_steps.specs.PartSteps.{part_after_send, part_after_fetch, part_after_cut, part_after_commit, report_sent, report_got, report_least}
-use Rattle.vt_steps.specs.World.{Part, Board, Book, World, opening_part, opening_world, book_floor}
-use Rattle.vt_steps.specs.Letters.{least_of}
+use Rattle.vt_steps.specs.promise.BoardSteps.{is_clear, with_open_round, with_report, after_report}
+use Rattle.vt_steps.specs.promise.BookSteps.{may_commit, with_rows}
+use Rattle.vt_steps.specs.promise.Next.{next, run, reached}
+use Rattle.vt_steps.specs.promise.PartSteps.{part_after_send, part_after_fetch, part_after_cut, part_after_commit, report_sent, report_got, report_least}
+use Rattle.vt_steps.specs.promise.World.{Part, Board, Book, World, opening_part, opening_world, book_floor}
+use Rattle.vt_steps.specs.promise.Letters.{least_of}
 use Rattle.vt_steps.proofs.time.Announced.{IsTimeSound, time-kept, opening-time-sound}
 use Rattle.vt_steps.proofs.steps.Changes.{homes, arrives, Local, acts, takes, Change, stays, local, sends, fetches, cuts, reports, commits, closes, next_changes, run_keeps, if_has}
 use Rattle.vt_steps.proofs.steps.Outcomes.{with_open_round-either, after_report-either}

@@ -6,14 +6,14 @@ use Rattle.std.proofs.Math.ListN.{length-set}
 use Rattle.std.proofs.lemmas.Bool.Decides.{eqb_tells}
 use Rattle.std.proofs.lemmas.List.{length-replicate}
 use Rattle.std.proofs.lemmas.Option.{slice_get_within}
-use Rattle.vt_key.specs.Letters.{other_colour}
-use Rattle.vt_key.specs.Times.{Time, TimeAtMost}
+use Rattle.vt_key.specs.promise.Letters.{other_colour}
+use Rattle.vt_key.specs.promise.Times.{Time, TimeAtMost}
 use Rattle.vt_key.specs.declared.letter.Colour.{Colour}
 use Rattle.vt_key.specs.declared.letter.Mail.{Mail}
-use Rattle.vt_steps.specs.BoardSteps.{all_set, with_new_pass, with_new_round, with_announcement, with_open_round, with_report, after_report}
-use Rattle.vt_steps.specs.Letters.{count_of, count_colour}
-use Rattle.vt_steps.specs.PartSteps.{part_after_cut, report_sent, report_got, report_least}
-use Rattle.vt_steps.specs.World.{Board, Part, letters_in}
+use Rattle.vt_steps.specs.promise.BoardSteps.{all_set, with_new_pass, with_new_round, with_announcement, with_open_round, with_report, after_report}
+use Rattle.vt_steps.specs.promise.Letters.{count_of, count_colour}
+use Rattle.vt_steps.specs.promise.PartSteps.{part_after_cut, report_sent, report_got, report_least}
+use Rattle.vt_steps.specs.promise.World.{Board, Part, letters_in}
 use Rattle.vt_steps.proofs.letters.Colours.{sent_in, got_in, early_coloured, other-other, all-coloured, none-coloured}
 use Rattle.vt_steps.proofs.time.Early.{early_in, early_mail, none-early, letters-early}
 use Rattle.vt_steps.proofs.time.Flags.{flagged_sum-put_same, flagged_sum-set, flagged_sum-all, flagged_sum-none, none-set, set-at, put-cases}

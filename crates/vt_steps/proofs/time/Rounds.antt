@@ -5,17 +5,17 @@ use Rattle.std.specs.List.{sum_by, filter}
 use Rattle.std.proofs.Math.ListN.{length-set}
 use Rattle.std.proofs.lemmas.List.Sums.{sum_by-append}
 use Rattle.std.proofs.lemmas.Option.{slice_get_within}
-use Rattle.vt_key.specs.Letters.{other_colour}
-use Rattle.vt_key.specs.Times.{Time, TimeAtMost}
+use Rattle.vt_key.specs.promise.Letters.{other_colour}
+use Rattle.vt_key.specs.promise.Times.{Time, TimeAtMost}
 use Rattle.vt_key.specs.declared.letter.Colour.{Colour}
 use Rattle.vt_key.specs.declared.letter.Letter.{Letter}
 use Rattle.vt_key.specs.declared.letter.Mail.{Mail}
-use Rattle.vt_model.specs.Simulation.{Simulation}
-use Rattle.vt_steps.specs.BoardSteps.{all_set}
-use Rattle.vt_steps.specs.Copies.{letter_weight, mail_weight}
-use Rattle.vt_steps.specs.Letters.{count_of, count_colour, is_colour}
-use Rattle.vt_steps.specs.PartSteps.{is_for, mail_of_send, part_after_fetch, part_after_send}
-use Rattle.vt_steps.specs.World.{Board, Part}
+use Rattle.vt_model.specs.promise.Simulation.{Simulation}
+use Rattle.vt_steps.specs.promise.BoardSteps.{all_set}
+use Rattle.vt_steps.specs.inside.Copies.{letter_weight, mail_weight}
+use Rattle.vt_steps.specs.promise.Letters.{count_of, count_colour, is_colour}
+use Rattle.vt_steps.specs.promise.PartSteps.{is_for, mail_of_send, part_after_fetch, part_after_send}
+use Rattle.vt_steps.specs.promise.World.{Board, Part}
 use Rattle.vt_steps.proofs.letters.Colours.{sent_in, got_in, early_coloured, mailed, not-other, other-not, count_of-raised, count_of-fetched, count_colour-mailed, early_coloured-mailed, all-coloured}
 use Rattle.vt_steps.proofs.time.Early.{early, early_in, early_letters, early_mail, all_early, none-early, at-most-least}
 use Rattle.vt_steps.proofs.time.Flags.{flagged_sum, flagged_sum-put, flagged_sum-put_same, flagged_sum-grows, flagged_sum-at, set-at}

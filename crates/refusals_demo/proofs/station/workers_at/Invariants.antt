@@ -1,7 +1,7 @@
 use Rattle.std.proofs.Common.{◌≡◌, length, ◌+◌}
-use Rattle.vt_model.specs.Simulation.{simulation_of}
-use Rattle.vt_places.specs.Told.{station_table}
-use Rattle.vt_places.specs.Making.{AreNew}
+use Rattle.vt_model.specs.promise.Simulation.{simulation_of}
+use Rattle.vt_places.specs.inside.Told.{station_table}
+use Rattle.vt_places.specs.inside.Making.{AreNew}
 use Rattle.refusals_demo.proofs.station.workers_at.Given as goal
 
 abbrev pub invariant-loop-w : goal.invariant-loop-w

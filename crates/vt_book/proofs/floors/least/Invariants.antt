@@ -1,6 +1,6 @@
 use Rattle.std.proofs.Common.{◌≡◌, ◌≤◌, drop}
-use Rattle.vt_key.specs.Times.{earlier}
-use Rattle.vt_steps.specs.Letters.{least_of}
+use Rattle.vt_key.specs.promise.Times.{earlier}
+use Rattle.vt_steps.specs.promise.Letters.{least_of}
 use Rattle.vt_book.proofs.floors.least.Given as goal
 
 abbrev pub invariant-loop-time : goal.invariant-loop-time

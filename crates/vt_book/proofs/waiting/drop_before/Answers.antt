@@ -1,9 +1,9 @@
 use Rattle.std.proofs.Common.{◌≡◌, ◌++◌, List, not, rules, sym, ap, ◌∙◌, append-nil, arith}
 use Rattle.std.specs.List.{sum_by}
 use Rattle.std.proofs.lemmas.Fn.{filter_same}
-use Rattle.vt_key.specs.Times.{time_before}
+use Rattle.vt_key.specs.promise.Times.{time_before}
 use Rattle.vt_model.specs.declared.rows.Row.{Row}
-use Rattle.vt_model.specs.Sequential.{rows_before}
+use Rattle.vt_model.specs.promise.Sequential.{rows_before}
 use Rattle.vt_book.proofs.WaitingLemmas.{all-early, same-parts}
 use Rattle.vt_book.proofs.waiting.drop_before.Goals as goal
 

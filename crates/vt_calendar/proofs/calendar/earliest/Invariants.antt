@@ -1,5 +1,5 @@
 use Rattle.std.proofs.Common.{◌≡◌}
-use Rattle.vt_calendar.specs.Kept.{earliest}
+use Rattle.vt_calendar.specs.inside.Kept.{earliest}
 use Rattle.vt_calendar.proofs.calendar.earliest.Given as goal
 
 abbrev pub invariant-loop-letter : goal.invariant-loop-letter

@@ -1,6 +1,6 @@
 use Rattle.std.proofs.Common.{◌≡◌, ◌≤◌, sym, ◌∙◌, arith}
-use Rattle.vt_key.specs.Times.{ticks_of, priority_of}
-use Rattle.vt_calendar.specs.Kept.{time_of}
+use Rattle.vt_key.specs.promise.Times.{ticks_of, priority_of}
+use Rattle.vt_calendar.specs.inside.Kept.{time_of}
 use Rattle.vt_calendar.proofs.KeptLemmas.{earliest-own}
 use Rattle.vt_calendar.proofs.calendar.earliest_of_slot.Goals as goal
 

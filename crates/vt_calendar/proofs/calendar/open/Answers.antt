@@ -1,10 +1,10 @@
 use Rattle.std.proofs.Common.{◌≡◌, ◌++◌, ◌≤◌, List, sym, subst, ap, ◌∙◌}
 use Rattle.std.specs.List.Sorted.{IsPermutation}
 use Rattle.std.proofs.lemmas.List.Sorted.{IsPermutation-trans}
-use Rattle.vt_key.specs.Times.{Time, ticks_of}
+use Rattle.vt_key.specs.promise.Times.{Time, ticks_of}
 use Rattle.vt_key.specs.declared.letter.Letter.{Letter}
-use Rattle.vt_calendar.specs.Slots.{items_in}
-use Rattle.vt_calendar.specs.Kept.{time_of, earliest, AreFrom, ArePlaced, AreSpread}
+use Rattle.vt_calendar.specs.inside.Slots.{items_in}
+use Rattle.vt_calendar.specs.inside.Kept.{time_of, earliest, AreFrom, ArePlaced, AreSpread}
 use Rattle.vt_calendar.proofs.KeptLemmas.{earliest-least, opened-placed, opened-ticks, opened-same, opened-some}
 use Rattle.vt_calendar.proofs.calendar.open.Given.{Over}
 use Rattle.vt_calendar.proofs.calendar.open.Goals.{After-earliest_of_slot}

@@ -1,12 +1,12 @@
 use Rattle.std.proofs.Common.{◌≡◌, ◌∷◌, ◌++◌, inl, inr, List, sym, subst, ap, ◌∙◌}
 use Rattle.std.specs.List.Sorted.{IsPermutation}
 use Rattle.std.proofs.lemmas.List.Sorted.{IsPermutation-sym, IsPermutation-trans, IsPermutation-append_left}
-use Rattle.vt_key.specs.Lists.{Among}
-use Rattle.vt_key.specs.Times.{TimeBefore, TimeAtMost}
+use Rattle.vt_key.specs.promise.Lists.{Among}
+use Rattle.vt_key.specs.promise.Times.{TimeBefore, TimeAtMost}
 use Rattle.vt_key.specs.declared.letter.Letter.{Letter}
-use Rattle.vt_calendar.specs.Digits.{slot_of}
-use Rattle.vt_calendar.specs.Slots.{items_in, IsChanged}
-use Rattle.vt_calendar.specs.Kept.{time_of, AreFrom}
+use Rattle.vt_calendar.specs.inside.Digits.{slot_of}
+use Rattle.vt_calendar.specs.inside.Slots.{items_in, IsChanged}
+use Rattle.vt_calendar.specs.inside.Kept.{time_of, AreFrom}
 use Rattle.vt_calendar.proofs.ApartLemmas.{among-permuted}
 use Rattle.vt_calendar.proofs.KeptLemmas.{moved-first, moved-last, is-later, isnt-later, items-more, placed-put}
 use Rattle.vt_calendar.proofs.calendar.spread.Given.{Over}

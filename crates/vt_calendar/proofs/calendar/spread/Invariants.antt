@@ -1,7 +1,7 @@
 use Rattle.std.proofs.Common.{◌++◌, length}
 use Rattle.std.specs.List.Sorted.{IsPermutation}
-use Rattle.vt_calendar.specs.Slots.{items_in}
-use Rattle.vt_calendar.specs.Kept.{AreFrom, AreReached, ArePlaced}
+use Rattle.vt_calendar.specs.inside.Slots.{items_in}
+use Rattle.vt_calendar.specs.inside.Kept.{AreFrom, AreReached, ArePlaced}
 use Rattle.vt_calendar.proofs.calendar.spread.Given as goal
 
 abbrev pub invariant-loop-letter : goal.invariant-loop-letter

@@ -1,5 +1,5 @@
 use Rattle.std.proofs.Common.{◌≡◌, ◌/◌, ◌*◌, sym, ap, ◌∙◌, arith}
-use Rattle.vt_key.specs.Times.{ticks_of, at}
+use Rattle.vt_key.specs.promise.Times.{ticks_of, at}
 use Rattle.vt_calendar.proofs.DigitLemmas.{kept-same, kept-high}
 use Rattle.vt_calendar.proofs.digits.first_kept.Goals as goal
 

@@ -1,5 +1,5 @@
 use Rattle.std.proofs.Common.{◌/◌, ◌%◌, ◌+◌, sym, ap, ◌∙◌}
-use Rattle.vt_calendar.specs.Digits.{high_slot}
+use Rattle.vt_calendar.specs.inside.Digits.{high_slot}
 use Rattle.vt_calendar.proofs.DigitLemmas.{slot-found-priority, slot-found-low, slot-found-high}
 use Rattle.vt_calendar.proofs.digits.slot_of.Goals as goal
 

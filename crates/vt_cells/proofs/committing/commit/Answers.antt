@@ -1,5 +1,5 @@
 use Rattle.std.proofs.Common.{refl, ap}
-use Rattle.vt_kernel.specs.Held.{HeldWorker}
+use Rattle.vt_kernel.specs.inside.Held.{HeldWorker}
 use Rattle.vt_cells.proofs.BookSteps.{commit-done, commit-refused}
 use Rattle.vt_cells.proofs.committing.commit.Goals as goal
 

@@ -1,6 +1,6 @@
 use Rattle.std.proofs.Common.{inr, refl, sym, ◌∙◌, ap, subst}
-use Rattle.vt_book.specs.Books.{RunBook}
-use Rattle.vt_cells.specs.Calls.{IsBatchOf}
+use Rattle.vt_book.specs.inside.Books.{RunBook}
+use Rattle.vt_cells.specs.inside.Calls.{IsBatchOf}
 use Rattle.vt_cells.proofs.BookSteps.{may-commit, hand-taken, hand-closed, hand-memory, hand-done}
 use Rattle.vt_cells.proofs.committing.hand_in.Goals as goal
 

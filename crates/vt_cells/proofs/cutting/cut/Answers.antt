@@ -1,6 +1,6 @@
 use Rattle.std.proofs.Common.{ap, refl}
-use Rattle.vt_board.specs.BoardOfRun.{BoardOfRun}
-use Rattle.vt_kernel.specs.Held.{HeldWorker}
+use Rattle.vt_board.specs.inside.BoardOfRun.{BoardOfRun}
+use Rattle.vt_kernel.specs.inside.Held.{HeldWorker}
 use Rattle.vt_cells.proofs.BoardSteps.{cut-done, cut-refused}
 use Rattle.vt_cells.proofs.cutting.cut.Goals as goal
 

@@ -1,6 +1,6 @@
 use Rattle.std.proofs.Common.{◌∙◌, ap, sym, refl, is_ok}
-use Rattle.vt_board.specs.BoardOfRun.{BoardOfRun}
-use Rattle.vt_kernel.specs.Held.{HeldWorker}
+use Rattle.vt_board.specs.inside.BoardOfRun.{BoardOfRun}
+use Rattle.vt_kernel.specs.inside.Held.{HeldWorker}
 use Rattle.vt_cells.proofs.BoardSteps.{report-done, report-refused}
 use Rattle.vt_cells.proofs.cutting.report.Goals as goal
 

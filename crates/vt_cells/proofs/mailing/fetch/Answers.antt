@@ -1,5 +1,5 @@
 use Rattle.std.proofs.Common.{ap}
-use Rattle.vt_kernel.specs.Held.{HeldWorker}
+use Rattle.vt_kernel.specs.inside.Held.{HeldWorker}
 use Rattle.vt_cells.proofs.MailSteps.{fetch-done, fetch-refused}
 use Rattle.vt_cells.proofs.mailing.fetch.Goals as goal
 

@@ -1,9 +1,9 @@
 use Rattle.std.proofs.Common.{◌≡◌, List, Option, None, slice_set, slice_index_or, sym, subst, ap, ◌∙◌}
 use Rattle.std.proofs.lemmas.List.{set-set, set-get_or}
 use Rattle.vt_key.specs.declared.order.Rank.{Rank}
-use Rattle.vt_tournament.specs.Contest.{IsTournamentOf}
+use Rattle.vt_tournament.specs.inside.Contest.{IsTournamentOf}
 use Rattle.vt_tournament.proofs.TreeLemmas.{set-nobody, told_none}
-use Rattle.vt_contest.specs.Entries.{entries_of, unready_of}
+use Rattle.vt_contest.specs.inside.Entries.{entries_of, unready_of}
 use Rattle.vt_contest.proofs.entering.enter_unready.Goals as goal
 
 -- where nobody took part and the changed process takes none, all is as it was

@@ -1,9 +1,9 @@
 use Rattle.std.proofs.Common.{◌≡◌, ◌∙◌, ◌++◌, ◌<◌, ℕ, length, Option, Some, IfSome, slice_get, sym, ap, subst}
 use Rattle.std.proofs.lemmas.Option.{slice_get-get_or}
-use Rattle.vt_key.specs.Times.{Time}
-use Rattle.vt_model.specs.Settings.{end_of}
-use Rattle.vt_steps.specs.Letters.{least_time}
-use Rattle.vt_lp.specs.Held.{HeldProcess}
+use Rattle.vt_key.specs.promise.Times.{Time}
+use Rattle.vt_model.specs.promise.Settings.{end_of}
+use Rattle.vt_steps.specs.promise.Letters.{least_time}
+use Rattle.vt_lp.specs.inside.Held.{HeldProcess}
 use Rattle.vt_contest.proofs.Written.{get-all}
 use Rattle.vt_contest.proofs.readers.least_at.Goals as goal
 

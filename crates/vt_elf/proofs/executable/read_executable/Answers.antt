@@ -1,5 +1,5 @@
 use Rattle.std.proofs.Common.{◌-◌, length, ap, ◌∙◌, arith}
-use Rattle.vt_elf.specs.Segments.{reach}
+use Rattle.vt_elf.specs.promise.Segments.{reach}
 use Rattle.vt_elf.specs.declared.segment.Region.TheVariants.{Code, Constants, State}
 use Rattle.vt_elf.specs.declared.segment.TheConstants.{IMAGE, STATE}
 use Rattle.vt_elf.proofs.SegmentLemmas.{checked, ends_fit, least_reach, apart_in_image, apart_in_state, code_ends, image_ends, state_ends}

@@ -1,7 +1,7 @@
 use Rattle.std.proofs.Common.{sym, ap, ◌∙◌, rules}
 use Rattle.std.specs.Option.{is_some}
-use Rattle.vt_elf.specs.Executables.{is_dynamic}
-use Rattle.vt_elf.specs.Fields.{e_phnum}
+use Rattle.vt_elf.specs.promise.Executables.{is_dynamic}
+use Rattle.vt_elf.specs.promise.Fields.{e_phnum}
 use Rattle.vt_elf.proofs.Searching.{found_first}
 use Rattle.vt_elf.proofs.header.is_any_dynamic.Goals as goal
 

@@ -1,5 +1,5 @@
 use Rattle.std.proofs.Common.{◌≡◌, ℕ, ◌+◌, ◌<◌, ◌≤◌, drop, length, slice_index}
-use Rattle.vt_elf.specs.Segments.{memory_byte}
+use Rattle.vt_elf.specs.promise.Segments.{memory_byte}
 use Rattle.vt_elf.proofs.loading.load.Given as goal
 
 -- the bytes of the segments from `index` on

@@ -1,5 +1,5 @@
 use Rattle.std.proofs.Common.{◌≡◌, true, drop}
-use Rattle.vt_elf.specs.Segments.{segments_fault}
+use Rattle.vt_elf.specs.promise.Segments.{segments_fault}
 use Rattle.vt_elf.proofs.segment.check_segments.Given as goal
 
 -- what is wrong with the segments that are left is what is wrong with all

@@ -1,6 +1,6 @@
 use Rattle.std.proofs.Common.{◌≡◌, ◌^◌, ◌<◌, drop}
 use Rattle.std.specs.List.{AllByRecursion}
-use Rattle.vt_elf.specs.Segments.{reach, end_of}
+use Rattle.vt_elf.specs.promise.Segments.{reach, end_of}
 use Rattle.vt_elf.proofs.segment.reach.Given as goal
 
 -- the end so far, and the segments that are left, give the whole reach

@@ -1,5 +1,5 @@
 use Rattle.std.proofs.Common.{◌≡◌}
-use Rattle.vt_elf.specs.Segments.{loaded}
+use Rattle.vt_elf.specs.promise.Segments.{loaded}
 use Rattle.vt_elf.proofs.segment.read_segments.Given as goal
 
 -- the segments of the headers so far

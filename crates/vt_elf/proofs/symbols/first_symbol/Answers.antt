@@ -1,5 +1,5 @@
 use Rattle.std.proofs.Common.{sym, ◌∙◌, ◌/◌, length, rules}
-use Rattle.vt_elf.specs.Symbols.{is_symbol}
+use Rattle.vt_elf.specs.promise.Symbols.{is_symbol}
 use Rattle.vt_elf.proofs.Searching.{found_first}
 use Rattle.vt_elf.proofs.symbols.first_symbol.Goals as goal
 

@@ -1,5 +1,5 @@
 use Rattle.std.proofs.Common.{◌≡◌, None}
-use Rattle.vt_elf.specs.Symbols.{first_below, is_symbol}
+use Rattle.vt_elf.specs.promise.Symbols.{first_below, is_symbol}
 use Rattle.vt_elf.proofs.symbols.first_symbol.Given as goal
 
 -- none of the symbols so far

@@ -1,6 +1,6 @@
 use Rattle.std.proofs.Common.{sym, ◌∙◌, rules}
-use Rattle.vt_elf.specs.Symbols.{is_symbol_table}
-use Rattle.vt_elf.specs.Fields.{e_shnum}
+use Rattle.vt_elf.specs.promise.Symbols.{is_symbol_table}
+use Rattle.vt_elf.specs.promise.Fields.{e_shnum}
 use Rattle.vt_elf.proofs.Searching.{found_first}
 use Rattle.vt_elf.proofs.symbols.symbol_section.Goals as goal
 

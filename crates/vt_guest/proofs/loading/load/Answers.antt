@@ -3,7 +3,7 @@ use Rattle.std.specs.Result.{IfErr}
 use Rattle.std.proofs.lemmas.Result.{IfOk-weaker}
 use Rattle.vt_guest.specs.declared.loading.Refusal.TheVariants.{Memory}
 use Rattle.vt_guest.specs.declared.loading.TheConstants.{MAX_DATA}
-use Rattle.vt_guest.specs.Loading.{IsExecutableOf, IsAssembled, IsLoaded, IsExecutableRefused, IsRefused}
+use Rattle.vt_guest.specs.promise.Loading.{IsExecutableOf, IsAssembled, IsLoaded, IsExecutableRefused, IsRefused}
 use Rattle.vt_guest.proofs.loading.load.Goals as goal
 
 err-weaker : {X Y : Type 0} (r : Result X Y) (P Q : Y → Type 0) → ((y : Y) → P y → Q y) → IfErr r P → IfErr r Q

@@ -4,7 +4,7 @@ use Rattle.std.specs.String.{string_bytes}
 use Rattle.std.proofs.lemmas.List.{at_drop_more}
 use Rattle.vt_guest.specs.declared.loading.Set.{Set}
 use Rattle.vt_guest.specs.declared.loading.ObjectFault.{ObjectFault}
-use Rattle.vt_guest.specs.Loading.{set_fault, sets_fault}
+use Rattle.vt_guest.specs.promise.Loading.{set_fault, sets_fault}
 use Rattle.vt_guest.proofs.loading.set_all.Goals as goal
 
 pub returns-in-Some-clause-refused : goal.returns-in-Some-clause-refused

@@ -1,11 +1,12 @@
 use Rattle.std.proofs.Common.{◌≡◌, ◌+◌, ◌<◌, List, [], ◌∷◌, ◌++◌, ◌∙◌, length, map, take, get_or, sym, ap, arith, lit<}
 use Rattle.std.proofs.lemmas.List.{length-map, length-take-le, map-append, take_more}
-use Rattle.vt_model.specs.Sends.{RecordRequest, Outgoing, with_requests}
+use Rattle.vt_model.specs.promise.Sends.{RecordRequest}
+use Rattle.vt_model.specs.inside.Sends.{Outgoing, with_requests}
 use Rattle.vt_model.proofs.RequestLemmas.{no_requests, recorded as recorded-count}
 use Rattle.vt_model.proofs.SendLemmas.{with_requests-append}
 use Rattle.vt_guest.specs.declared.calls.Note.{Note}
 use Rattle.vt_guest.specs.declared.process.Words.{Words}
-use Rattle.vt_guest.specs.Handlers.{recorded}
+use Rattle.vt_guest.specs.promise.Handlers.{recorded}
 use Rattle.vt_guest.proofs.requests.record_all.Goals as goal
 
 pub notes-init : goal.notes-init

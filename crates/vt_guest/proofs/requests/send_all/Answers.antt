@@ -1,12 +1,13 @@
 use Rattle.std.proofs.Common.{◌≡◌, ℕ, ◌+◌, ◌<◌, List, [], ◌∷◌, ◌++◌, ◌∙◌, length, map, take, get_or, sym, ap, subst, arith, lit<}
 use Rattle.std.proofs.lemmas.List.{length-map, length-take-le, map-append, take_more, get_or-map}
-use Rattle.vt_key.specs.Times.{TimeBefore, at, ticks_of}
-use Rattle.vt_model.specs.Handler.{IsSendable}
-use Rattle.vt_model.specs.Sends.{SendRequest, Outgoing, with_requests}
+use Rattle.vt_key.specs.promise.Times.{TimeBefore, at, ticks_of}
+use Rattle.vt_model.specs.inside.Handler.{IsSendable}
+use Rattle.vt_model.specs.promise.Sends.{SendRequest}
+use Rattle.vt_model.specs.inside.Sends.{Outgoing, with_requests}
 use Rattle.vt_model.proofs.RequestLemmas.{no_requests, sent_after}
 use Rattle.vt_guest.specs.declared.calls.Request.{Request}
 use Rattle.vt_guest.specs.declared.process.Words.{Words}
-use Rattle.vt_guest.specs.Handlers.{asked}
+use Rattle.vt_guest.specs.promise.Handlers.{asked}
 use Rattle.vt_guest.proofs.requests.send_all.Goals as goal
 
 pub sends-init : goal.sends-init

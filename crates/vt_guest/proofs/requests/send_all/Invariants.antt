@@ -1,6 +1,6 @@
 use Rattle.std.proofs.Common.{◌≡◌, [], map, take}
-use Rattle.vt_model.specs.Sends.{with_requests}
-use Rattle.vt_guest.specs.Handlers.{asked}
+use Rattle.vt_model.specs.inside.Sends.{with_requests}
+use Rattle.vt_guest.specs.promise.Handlers.{asked}
 use Rattle.vt_guest.proofs.requests.send_all.Given as goal
 
 abbrev pub invariant-sends : goal.invariant-sends

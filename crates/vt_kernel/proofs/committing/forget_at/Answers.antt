@@ -1,7 +1,7 @@
 use Rattle.std.proofs.Common.{◌≡◌, ◌∙◌, List, Some, slice_get, sym, ap, subst}
 use Rattle.vt_steps.proofs.lists.Places.{get-put_same}
-use Rattle.vt_lp.specs.Held.{HeldProcess}
-use Rattle.vt_contest.specs.Contest.{IsContestOf, HasForgottenEvents}
+use Rattle.vt_lp.specs.inside.Held.{HeldProcess}
+use Rattle.vt_contest.specs.inside.Contest.{IsContestOf, HasForgottenEvents}
 use Rattle.vt_contest.proofs.ContestLemmas.{contest-before}
 use Rattle.vt_kernel.proofs.CommitLemmas.{one-forgotten}
 use Rattle.vt_kernel.proofs.LocalLemmas.{index-get, written-back}

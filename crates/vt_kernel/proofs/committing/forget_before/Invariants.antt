@@ -1,5 +1,5 @@
 use Rattle.std.proofs.Common.{length, ◌-◌}
-use Rattle.vt_contest.specs.Contest.{IsContestOf}
+use Rattle.vt_contest.specs.inside.Contest.{IsContestOf}
 use Rattle.vt_kernel.proofs.CommitLemmas.{HaveForgotten}
 use Rattle.vt_kernel.proofs.committing.forget_before.Given as goal
 

@@ -1,9 +1,9 @@
 use Rattle.std.proofs.Common.{◌∙◌, ◌+◌, ◌∷◌, List, map, drop, sym, ap}
 use Rattle.std.proofs.lemmas.List.{drop_more}
-use Rattle.vt_key.specs.Times.{Time, earlier}
+use Rattle.vt_key.specs.promise.Times.{Time, earlier}
 use Rattle.vt_key.specs.declared.letter.Letter.{Letter}
 use Rattle.vt_key.specs.declared.letter.Mail.{Mail}
-use Rattle.vt_steps.specs.Letters.{letter_time, least_time}
+use Rattle.vt_steps.specs.promise.Letters.{letter_time, least_time}
 use Rattle.vt_kernel.proofs.TimeLemmas.{same_low, earlier_assoc, earlier-end, earlier_low}
 use Rattle.vt_kernel.proofs.cutting.least_of_mail.Goals as goal
 

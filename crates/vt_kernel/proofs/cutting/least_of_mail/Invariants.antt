@@ -1,6 +1,6 @@
 use Rattle.std.proofs.Common.{◌≡◌, map, drop}
-use Rattle.vt_key.specs.Times.{TimeAtMost, earlier}
-use Rattle.vt_steps.specs.Letters.{least_time}
+use Rattle.vt_key.specs.promise.Times.{TimeAtMost, earlier}
+use Rattle.vt_steps.specs.promise.Letters.{least_time}
 use Rattle.vt_kernel.proofs.cutting.least_of_mail.Given as goal
 
 abbrev pub invariant-loop-mail : goal.invariant-loop-mail

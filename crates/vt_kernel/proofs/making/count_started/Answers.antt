@@ -1,7 +1,7 @@
 use Rattle.std.proofs.Common.{◌∙◌, ℕ, [], ap}
 use Rattle.vt_model.proofs.Sizes.{out_fits, first_out}
 use Rattle.vt_kernel.proofs.making.count_started.Goals as goal
-use Rattle.vt_model.specs.Settings.{end_of}
+use Rattle.vt_model.specs.promise.Settings.{end_of}
 
 pub new-out-requires : goal.new-out-requires
 new-out-requires g c = first_out _ _ c.args.config g.met.M.Model.payload_align g.met.M.Model.payload_size c.requires.known c.tick.ensures

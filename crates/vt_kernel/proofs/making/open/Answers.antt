@@ -3,11 +3,11 @@ use Rattle.std.specs.List.{All}
 use Rattle.std.proofs.lemmas.List.Elements.{All-nil}
 use Rattle.std.proofs.Math.Nat.{div-le_self}
 use Rattle.vt_key.specs.declared.limits.TheConstants.{MAX_COUNT}
-use Rattle.vt_steps.specs.Letters.{Counts}
-use Rattle.vt_lp.specs.Held.{HeldProcess, AllWithinRun}
-use Rattle.vt_contest.specs.Contest.{IsContestOf, IsIdle}
-use Rattle.vt_outbox.specs.Outbox.{HeldOutbox}
-use Rattle.vt_kernel.specs.Held.{AllOwnMail, IsOwnMail, AreCounted}
+use Rattle.vt_steps.specs.promise.Letters.{Counts}
+use Rattle.vt_lp.specs.inside.Held.{HeldProcess, AllWithinRun}
+use Rattle.vt_contest.specs.inside.Contest.{IsContestOf, IsIdle}
+use Rattle.vt_outbox.specs.inside.Outbox.{HeldOutbox}
+use Rattle.vt_kernel.specs.inside.Held.{AllOwnMail, IsOwnMail, AreCounted}
 use Rattle.vt_kernel.proofs.MakeLemmas.{all-idle, stand-opening}
 use Rattle.vt_kernel.proofs.making.open.Goals as goal
 

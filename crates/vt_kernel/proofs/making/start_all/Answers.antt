@@ -6,11 +6,11 @@ use Rattle.std.proofs.Math.Nat.{suc-mul}
 use Rattle.vt_key.specs.declared.fault.Fault.{Fault}
 use Rattle.vt_key.specs.declared.fault.Fault.TheVariants.{Memory}
 use Rattle.vt_key.specs.declared.letter.Sign.TheVariants.{Plus}
-use Rattle.vt_model.specs.Simulation.{simulation_of}
-use Rattle.vt_steps.specs.Letters.{stamped, signed}
-use Rattle.vt_steps.specs.World.{process_at}
-use Rattle.vt_lp.specs.Held.{HeldProcess, StandsFor as ProcessStandsFor, opening_process}
-use Rattle.vt_kernel.specs.Held.{AreProcesses}
+use Rattle.vt_model.specs.promise.Simulation.{simulation_of}
+use Rattle.vt_steps.specs.promise.Letters.{stamped, signed}
+use Rattle.vt_steps.specs.promise.World.{process_at}
+use Rattle.vt_lp.specs.inside.Held.{HeldProcess, StandsFor as ProcessStandsFor, opening_process}
+use Rattle.vt_kernel.specs.inside.Held.{AreProcesses}
 use Rattle.vt_kernel.proofs.MakeLemmas.{started_sends, started-more, started-fits, place-left, places-done, place-own, stamped-append, are-push}
 use Rattle.vt_key.proofs.ResultLemmas.{if_err}
 use Rattle.vt_kernel.proofs.making.start_all.Goals as goal

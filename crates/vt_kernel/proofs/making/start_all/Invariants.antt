@@ -1,10 +1,10 @@
 use Rattle.std.proofs.Common.{◌≡◌, ◌+◌, ◌-◌, ◌*◌, ◌<◌, length, map}
 use Rattle.std.specs.List.{All}
 use Rattle.vt_key.specs.declared.letter.Sign.TheVariants.{Plus}
-use Rattle.vt_model.specs.Simulation.{simulation_of}
-use Rattle.vt_steps.specs.Letters.{stamped, signed}
-use Rattle.vt_lp.specs.Held.{HeldProcess, StandsFor as ProcessStandsFor, AllWithinRun, opening_process}
-use Rattle.vt_kernel.specs.Held.{AreProcesses}
+use Rattle.vt_model.specs.promise.Simulation.{simulation_of}
+use Rattle.vt_steps.specs.promise.Letters.{stamped, signed}
+use Rattle.vt_lp.specs.inside.Held.{HeldProcess, StandsFor as ProcessStandsFor, AllWithinRun, opening_process}
+use Rattle.vt_kernel.specs.inside.Held.{AreProcesses}
 use Rattle.vt_kernel.proofs.MakeLemmas.{started_sends}
 use Rattle.vt_kernel.proofs.making.start_all.Given as goal
 

@@ -1,6 +1,6 @@
 use Rattle.std.proofs.Common.{◌∙◌, ap}
 use Rattle.std.proofs.lemmas.List.{take_all}
-use Rattle.vt_kernel.specs.Held.{held_values}
+use Rattle.vt_kernel.specs.inside.Held.{held_values}
 use Rattle.vt_kernel.proofs.readers.values_of.Goals as goal
 
 pub returns-clause-values : goal.returns-clause-values

@@ -1,5 +1,5 @@
 use Rattle.std.proofs.Common.{◌≡◌, take}
-use Rattle.vt_kernel.specs.Held.{held_values}
+use Rattle.vt_kernel.specs.inside.Held.{held_values}
 use Rattle.vt_kernel.proofs.readers.values_of.Given as goal
 
 abbrev pub invariant-loop-process : goal.invariant-loop-process

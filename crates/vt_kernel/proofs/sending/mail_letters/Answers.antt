@@ -1,10 +1,10 @@
 use Rattle.std.proofs.Common.{◌≡◌, ◌∙◌, ◌++◌, ◌+◌, ◌≤◌, length, map, vec_len, List, sym, ap, subst}
 use Rattle.std.specs.Vec.{vec_capacity}
-use Rattle.vt_key.specs.Times.{Time, TimeAtMost, earlier}
+use Rattle.vt_key.specs.promise.Times.{Time, TimeAtMost, earlier}
 use Rattle.vt_key.specs.declared.letter.Letter.{Letter}
-use Rattle.vt_model.specs.Settings.{end_of}
-use Rattle.vt_steps.specs.Letters.{least_time}
-use Rattle.vt_kernel.specs.Guards.{mailed}
+use Rattle.vt_model.specs.promise.Settings.{end_of}
+use Rattle.vt_steps.specs.promise.Letters.{least_time}
+use Rattle.vt_kernel.specs.inside.Guards.{mailed}
 use Rattle.vt_kernel.proofs.TimeLemmas.{earlier-end, same_low}
 use Rattle.vt_kernel.proofs.sending.mail_letters.Goals as goal
 

@@ -1,9 +1,9 @@
 use Rattle.std.proofs.Common.{◌≡◌, ◌+◌, ◌≤◌, ◌++◌, map, length, vec_len}
 use Rattle.std.specs.Vec.{vec_capacity}
-use Rattle.vt_key.specs.Times.{TimeAtMost, earlier}
-use Rattle.vt_model.specs.Settings.{end_of}
-use Rattle.vt_steps.specs.Letters.{least_time}
-use Rattle.vt_kernel.specs.Guards.{mailed}
+use Rattle.vt_key.specs.promise.Times.{TimeAtMost, earlier}
+use Rattle.vt_model.specs.promise.Settings.{end_of}
+use Rattle.vt_steps.specs.promise.Letters.{least_time}
+use Rattle.vt_kernel.specs.inside.Guards.{mailed}
 use Rattle.vt_kernel.proofs.sending.mail_letters.Given as goal
 
 abbrev pub invariant-loop-letter : goal.invariant-loop-letter

@@ -1,8 +1,8 @@
 use Rattle.std.proofs.Common.{◌≡◌, ◌∙◌, true, false, refl, sym, subst}
 use Rattle.std.proofs.lemmas.Result.{IfErr-weaker}
-use Rattle.vt_steps.specs.ProcessSteps.{can_annihilate}
+use Rattle.vt_steps.specs.promise.ProcessSteps.{can_annihilate}
 use Rattle.vt_model.specs.declared.settings.Config.{Config}
-use Rattle.vt_lp.specs.Held.{AllWithinRun}
+use Rattle.vt_lp.specs.inside.Held.{AllWithinRun}
 use Rattle.vt_kernel.proofs.SettlingLemmas.{led-start, led-undone, led-cancelled, led-same, settled-now, in-ok, in-err, cannot-err}
 use Rattle.vt_kernel.proofs.settling.settle_process.Given.{Over}
 use Rattle.vt_kernel.proofs.settling.settle_process.Goals.{After-cancellable}

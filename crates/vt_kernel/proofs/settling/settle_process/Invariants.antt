@@ -1,7 +1,7 @@
 use Rattle.std.proofs.Common.{IsFalse, ◌≡◌, ◌+◌, ◌*◌, length}
-use Rattle.vt_steps.specs.World.{LogicalProcess}
-use Rattle.vt_lp.specs.Held.{StandsFor, AllWithinRun}
-use Rattle.vt_kernel.specs.Settled.{IsLed}
+use Rattle.vt_steps.specs.promise.World.{LogicalProcess}
+use Rattle.vt_lp.specs.inside.Held.{StandsFor, AllWithinRun}
+use Rattle.vt_kernel.specs.inside.Settled.{IsLed}
 use Rattle.vt_kernel.proofs.settling.settle_process.Given as goal
 
 abbrev pub invariant-loop-changed : goal.invariant-loop-changed

@@ -1,4 +1,4 @@
-use Rattle.vt_logs.specs.Sheets.{slot_rows}
+use Rattle.vt_logs.specs.inside.Sheets.{slot_rows}
 use Rattle.vt_logs.proofs.SheetLemmas.{flat-more}
 use Rattle.vt_logs.proofs.sheet.append_rows_in.Goals as goal
 

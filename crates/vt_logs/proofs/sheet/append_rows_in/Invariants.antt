@@ -1,6 +1,6 @@
 use Rattle.std.proofs.Common.{◌≡◌, ◌++◌, take}
 use Rattle.std.specs.List.{flat_map}
-use Rattle.vt_logs.specs.Sheets.{slot_rows}
+use Rattle.vt_logs.specs.inside.Sheets.{slot_rows}
 use Rattle.vt_logs.proofs.sheet.append_rows_in.Given as goal
 
 abbrev pub invariant-loop-slot : goal.invariant-loop-slot

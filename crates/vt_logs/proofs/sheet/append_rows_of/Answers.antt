@@ -1,7 +1,7 @@
 use Rattle.std.proofs.Common.{◌∙◌, ◌+◌, ◌++◌, ◌∷◌, [], take, length, get_or, refl, sym, ap, append_assoc, append-nil}
 use Rattle.std.proofs.lemmas.List.{take_all}
 use Rattle.vt_model.specs.declared.rows.Record.{Record}
-use Rattle.vt_model.specs.Simulation.{rows_of}
+use Rattle.vt_model.specs.promise.Simulation.{rows_of}
 use Rattle.vt_logs.proofs.SheetLemmas.{rows-grow, rows-nothing, fits-under}
 use Rattle.vt_logs.proofs.sheet.append_rows_of.Goals as goal
 

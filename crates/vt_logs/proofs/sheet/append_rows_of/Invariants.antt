@@ -1,5 +1,5 @@
 use Rattle.std.proofs.Common.{◌≡◌, ◌++◌, take}
-use Rattle.vt_model.specs.Simulation.{rows_of}
+use Rattle.vt_model.specs.promise.Simulation.{rows_of}
 use Rattle.vt_logs.proofs.sheet.append_rows_of.Given as goal
 
 abbrev pub invariant-loop-record : goal.invariant-loop-record

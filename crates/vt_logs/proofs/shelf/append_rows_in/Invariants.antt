@@ -1,6 +1,6 @@
 use Rattle.std.proofs.Common.{◌≡◌, ◌++◌, take}
 use Rattle.std.specs.List.{flat_map}
-use Rattle.vt_logs.specs.Shelves.{page_rows}
+use Rattle.vt_logs.specs.inside.Shelves.{page_rows}
 use Rattle.vt_logs.proofs.shelf.append_rows_in.Given as goal
 
 abbrev pub invariant-loop-number : goal.invariant-loop-number

@@ -1,5 +1,5 @@
 use Rattle.std.proofs.lemmas.List.Filters.{FiltersInPlace}
-use Rattle.vt_logs.specs.Shelves.{is_used}
+use Rattle.vt_logs.specs.inside.Shelves.{is_used}
 use Rattle.vt_logs.proofs.shelf.drop_unused.Given as goal
 
 abbrev pub invariant-loop-i : goal.invariant-loop-i

@@ -1,5 +1,5 @@
 use Rattle.std.proofs.Common.{◌+◌, get_or, slice_set, sym, ◌∙◌, ap, add-one}
-use Rattle.vt_logs.specs.Shelves.{page_below}
+use Rattle.vt_logs.specs.inside.Shelves.{page_below}
 use Rattle.vt_logs.proofs.ShelfLemmas.{map-step, map-there, map-done}
 use Rattle.vt_logs.proofs.shelf.forget_in.Goals as goal
 

@@ -1,5 +1,5 @@
 use Rattle.std.proofs.Common.{◌≡◌, ◌++◌, map, take, drop}
-use Rattle.vt_logs.specs.Shelves.{page_below}
+use Rattle.vt_logs.specs.inside.Shelves.{page_below}
 use Rattle.vt_logs.proofs.shelf.forget_in.Given as goal
 
 abbrev pub invariant-loop-sheet : goal.invariant-loop-sheet

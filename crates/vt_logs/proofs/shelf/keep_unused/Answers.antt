@@ -2,7 +2,7 @@ use Rattle.std.proofs.Common.{◌+◌, ◌<◌, ◌≤◌, true, false, cond, eq
 use Rattle.std.specs.List.{filter, count_by, AllByRecursion}
 use Rattle.std.specs.Result.{is_ok}
 use Rattle.std.proofs.lemmas.List.{take_all}
-use Rattle.vt_logs.specs.Shelves.{is_unused}
+use Rattle.vt_logs.specs.inside.Shelves.{is_unused}
 use Rattle.vt_logs.proofs.ShelfLemmas.{pushed-known, pushed-count, filter-counted, kept-yes, kept-no, numbers-known}
 use Rattle.vt_logs.proofs.shelf.keep_unused.Goals.{then-is_unused, else-is_unused}
 use Rattle.vt_logs.proofs.shelf.keep_unused.Goals as goal

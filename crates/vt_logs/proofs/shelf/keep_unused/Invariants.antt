@@ -1,6 +1,6 @@
 use Rattle.std.proofs.Common.{ℕ, ◌+◌, ◌<◌, ◌≤◌, eqb, length, take}
 use Rattle.std.specs.List.{filter, count_by, AllByRecursion}
-use Rattle.vt_logs.specs.Shelves.{is_unused}
+use Rattle.vt_logs.specs.inside.Shelves.{is_unused}
 use Rattle.vt_logs.proofs.shelf.keep_unused.Given as goal
 
 abbrev pub invariant-loop-number : goal.invariant-loop-number

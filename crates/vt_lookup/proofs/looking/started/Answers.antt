@@ -1,6 +1,6 @@
 use Rattle.std.proofs.Common.{◌∙◌, ℕ, [], ap}
 use Rattle.vt_model.proofs.Sizes.{out_fits, first_out}
-use Rattle.vt_model.specs.Settings.{end_of}
+use Rattle.vt_model.specs.promise.Settings.{end_of}
 use Rattle.vt_lookup.proofs.looking.started.Goals as goal
 
 pub new-out-requires : goal.new-out-requires

@@ -1,6 +1,6 @@
 use Rattle.std.proofs.Common.{◌≡◌, ◌++◌, List}
 use Rattle.vt_model.specs.declared.rows.Row.{Row}
-use Rattle.vt_lp.specs.Ripe.{rows_of_ripe}
+use Rattle.vt_lp.specs.inside.Ripe.{rows_of_ripe}
 use Rattle.vt_lp.proofs.committing.append_ripe.Given as goal
 
 abbrev pub invariant-loop-event : goal.invariant-loop-event

@@ -3,7 +3,7 @@ use Rattle.std.specs.Result.{is_ok}
 use Rattle.std.proofs.lemmas.List.{take_all}
 use Rattle.vt_model.specs.declared.rows.Record.{Record}
 use Rattle.vt_model.specs.declared.rows.Row.{Row}
-use Rattle.vt_model.specs.Simulation.{rows_of}
+use Rattle.vt_model.specs.promise.Simulation.{rows_of}
 use Rattle.vt_lp.proofs.RipeLemmas.{rows_grow}
 use Rattle.vt_lp.proofs.committing.append_rows.Goals as goal
 

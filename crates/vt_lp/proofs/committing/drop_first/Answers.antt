@@ -1,6 +1,6 @@
 use Rattle.std.proofs.Common.{rules, ◌≡◌, ◌≤◌, ◌∙◌, Some, None, slice_get, ap, sym, subst}
 use Rattle.std.specs.Option.{option_copied}
-use Rattle.vt_key.specs.Keys.{Key}
+use Rattle.vt_key.specs.promise.Keys.{Key}
 use Rattle.vt_lp.proofs.RipeLemmas.{unripe_late, unripe_none}
 use Rattle.vt_lp.proofs.committing.drop_first.Goals as goal
 

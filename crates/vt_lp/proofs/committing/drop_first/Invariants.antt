@@ -1,7 +1,7 @@
 use Rattle.std.proofs.Common.{◌≡◌, ◌+◌, ◌||◌, IsFalse, length}
 use Rattle.std.specs.List.{sum_by}
-use Rattle.vt_past.specs.Kept.{held_by}
-use Rattle.vt_lp.specs.Ripe.{begins_ripe, unripe_events}
+use Rattle.vt_past.specs.inside.Kept.{held_by}
+use Rattle.vt_lp.specs.inside.Ripe.{begins_ripe, unripe_events}
 use Rattle.vt_lp.proofs.committing.drop_first.Given as goal
 
 abbrev pub invariant-loop-first : goal.invariant-loop-first

@@ -1,9 +1,9 @@
 use Rattle.std.proofs.Common.{◌≡◌, ◌∙◌, sym, ap, Some}
 use Rattle.std.specs.Prelude.{find}
 use Rattle.std.specs.Option.{option_copied}
-use Rattle.vt_key.specs.Order.{key_same}
-use Rattle.vt_key.specs.Queues.{has_stamp}
-use Rattle.vt_steps.specs.ProcessSteps.{are_opposite}
+use Rattle.vt_key.specs.promise.Order.{key_same}
+use Rattle.vt_key.specs.promise.Queues.{has_stamp}
+use Rattle.vt_steps.specs.promise.ProcessSteps.{are_opposite}
 use Rattle.vt_lp.proofs.letters.annihilate.Goals as goal
 
 pub returns-in-Some-Some : goal.returns-in-Some-Some

@@ -1,6 +1,6 @@
 use Rattle.std.proofs.Common.{◌≡◌, ◌∙◌, sym, ap, find, reverse, List, Some, None}
 use Rattle.std.specs.Option.{option_copied}
-use Rattle.vt_key.specs.Order.{rank_same}
+use Rattle.vt_key.specs.promise.Order.{rank_same}
 use Rattle.vt_key.specs.declared.letter.Letter.{Letter}
 use Rattle.vt_past.specs.declared.event.PastEvent.{PastEvent}
 use Rattle.vt_lp.proofs.ReachLemmas.{has-reached, is_reached, some_is_it}

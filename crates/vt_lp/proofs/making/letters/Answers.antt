@@ -1,7 +1,7 @@
 use Rattle.std.proofs.Common.{◌≡◌, ◌+◌, ◌-◌, ◌∙◌, length, map, List, [], ◌∷◌, ◌++◌, take, ap, sym, arith, length-take}
 use Rattle.std.proofs.lemmas.List.{take_more}
 use Rattle.vt_model.specs.declared.sending.Sent.{Sent}
-use Rattle.vt_steps.specs.Letters.{stamped, signed}
+use Rattle.vt_steps.specs.promise.Letters.{stamped, signed}
 use Rattle.vt_lp.proofs.Stamping.{event_of, letters-more}
 use Rattle.vt_lp.proofs.making.letters.Goals as goal
 

@@ -1,5 +1,5 @@
 use Rattle.std.proofs.Common.{◌≡◌, ◌+◌, ◌-◌, map, take}
-use Rattle.vt_steps.specs.Letters.{stamped, signed}
+use Rattle.vt_steps.specs.promise.Letters.{stamped, signed}
 use Rattle.vt_lp.proofs.making.letters.Given as goal
 
 abbrev pub invariant-loop-send : goal.invariant-loop-send

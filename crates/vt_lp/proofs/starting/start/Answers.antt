@@ -2,11 +2,11 @@ use Rattle.std.proofs.Common.{◌≡◌, ◌∙◌, ℕ, List, [], map, length, 
 use Rattle.vt_key.specs.declared.letter.Letter.{Letter}
 use Rattle.vt_key.specs.declared.letter.Sign.TheVariants.{Plus}
 use Rattle.vt_model.specs.declared.sending.Sent.{Sent}
-use Rattle.vt_model.specs.Simulation.{simulation_of}
+use Rattle.vt_model.specs.promise.Simulation.{simulation_of}
 use Rattle.vt_model.proofs.LawLemmas.{lawful_of}
-use Rattle.vt_model.specs.Settings.{end_of}
-use Rattle.vt_steps.specs.Letters.{stamped, signed}
-use Rattle.vt_lp.specs.Held.{AllWithinRun}
+use Rattle.vt_model.specs.promise.Settings.{end_of}
+use Rattle.vt_steps.specs.promise.Letters.{stamped, signed}
+use Rattle.vt_lp.specs.inside.Held.{AllWithinRun}
 use Rattle.vt_model.proofs.Sizes.{out_fits, first_out}
 use Rattle.vt_lp.proofs.Stamping.{length-letters, letters-within}
 use Rattle.vt_lp.proofs.starting.start.Goals as goal

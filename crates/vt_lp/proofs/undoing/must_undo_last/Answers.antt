@@ -1,6 +1,6 @@
 use Rattle.std.proofs.Common.{◌∙◌, ◌||◌, not, ap, sym}
 use Rattle.std.specs.List.{list_any}
-use Rattle.vt_key.specs.Order.{rank_before}
+use Rattle.vt_key.specs.promise.Order.{rank_before}
 use Rattle.vt_lp.proofs.ReadyLemmas.{undo-told, undo-nobody}
 use Rattle.vt_lp.proofs.undoing.must_undo_last.Goals as goal
 

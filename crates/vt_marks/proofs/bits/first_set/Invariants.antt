@@ -1,5 +1,5 @@
 use Rattle.std.proofs.Common.{◌≡◌, ℕ, ◌+◌, ◌*◌, ◌<◌, ◌≤◌, false}
-use Rattle.vt_marks.specs.Bits.{is_set}
+use Rattle.vt_marks.specs.inside.Bits.{is_set}
 use Rattle.vt_marks.proofs.bits.first_set.Given as goal
 
 abbrev pub invariant-loop-at : goal.invariant-loop-at

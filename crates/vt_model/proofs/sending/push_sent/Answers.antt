@@ -1,5 +1,5 @@
 use Rattle.std.proofs.Common.{[], ◌∷◌, ◌++◌, ◌∙◌, ap, sym}
-use Rattle.vt_model.specs.Out.{sends_held}
+use Rattle.vt_model.specs.inside.Out.{sends_held}
 use Rattle.vt_model.proofs.sending.push_sent.Goals as goal
 
 pub returns-in-Some : goal.returns-in-Some

@@ -1,6 +1,6 @@
 use Rattle.vt_model.proofs.EndLemmas.{history_is_sequential}
 use Rattle.vt_model.proofs.LawLemmas.{lawful_of}
-use Rattle.vt_model.specs.Simulation.{simulation_of}
+use Rattle.vt_model.specs.promise.Simulation.{simulation_of}
 use Rattle.vt_model.proofs.theorem.one_history.Goals as goal
 
 pub returns : goal.returns

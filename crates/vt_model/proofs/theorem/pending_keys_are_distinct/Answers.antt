@@ -1,4 +1,4 @@
-use Rattle.vt_model.specs.Simulation.{simulation_of}
+use Rattle.vt_model.specs.promise.Simulation.{simulation_of}
 use Rattle.vt_model.proofs.DistinctLemmas.{distinct_pending}
 use Rattle.vt_model.proofs.LawLemmas.{lawful_of}
 use Rattle.vt_model.proofs.theorem.pending_keys_are_distinct.Goals as goal

@@ -1,10 +1,10 @@
 use Rattle.std.proofs.Common.{[]}
 use Rattle.vt_key.proofs.ListLemmas.{rising-filter}
-use Rattle.vt_key.specs.Times.{time_before}
+use Rattle.vt_key.specs.promise.Times.{time_before}
 use Rattle.vt_model.specs.declared.rows.Row.{Row}
-use Rattle.vt_model.specs.Simulation.{simulation_of}
-use Rattle.vt_model.specs.Sequential.{whole_run, rows_after}
-use Rattle.vt_model.specs.Rows.{RowBefore}
+use Rattle.vt_model.specs.promise.Simulation.{simulation_of}
+use Rattle.vt_model.specs.promise.Sequential.{whole_run, rows_after}
+use Rattle.vt_model.specs.promise.Rows.{RowBefore}
 use Rattle.vt_model.proofs.RunLemmas.{reached}
 use Rattle.vt_model.proofs.EndLemmas.{whole_run-rising, run_rows-rise, whole_rows-rise}
 use Rattle.vt_model.proofs.LawLemmas.{lawful_of}

@@ -1,4 +1,4 @@
-use Rattle.vt_model.specs.Simulation.{simulation_of}
+use Rattle.vt_model.specs.promise.Simulation.{simulation_of}
 use Rattle.vt_model.proofs.EndLemmas.{step-falls, ends, events-end, executed_all}
 use Rattle.vt_model.proofs.LawLemmas.{lawful_of}
 use Rattle.vt_model.proofs.theorem.run_ends.Goals as goal

@@ -1,6 +1,6 @@
 use Rattle.std.proofs.Common.{◌++◌, map, sym, ap, ◌∙◌}
-use Rattle.vt_nodes.specs.Blocks.{places}
-use Rattle.vt_nodes.specs.Linked.{NodeAt, with_next}
+use Rattle.vt_nodes.specs.inside.Blocks.{places}
+use Rattle.vt_nodes.specs.inside.Linked.{NodeAt, with_next}
 use Rattle.vt_nodes.proofs.Links.{last-of, take-last, drop-last, with_next-snoc}
 use Rattle.vt_nodes.proofs.node.set_last_next.Goals as goal
 

@@ -21,7 +21,7 @@ use denote.Struct.Struct.{within}
 use Rattle.core.proofs.alloc.Shapes.{after}
 use Rattle.std.specs.Prelude.{map}
 use Rattle.std_alloc.specs.Box.Ownership.{box_owns}
-use Rattle.vt_nodes.specs.Blocks.{may_free, blocks_owned, places}
+use Rattle.vt_nodes.specs.inside.Blocks.{may_free, blocks_owned, places}
 use Rattle.vt_nodes.specs.contracts.blocks.Blocks as blocks
 use Rattle.vt_nodes.specs.contracts.link.Link.{the_row as Link}
 use Rattle.vt_nodes.specs.contracts.node.Node as node

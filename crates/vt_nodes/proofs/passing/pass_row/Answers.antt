@@ -1,6 +1,6 @@
 use Rattle.std.proofs.Common.{rules, ◌≡◌, ◌∙◌, false, sym}
-use Rattle.vt_nodes.specs.First.{first_fails}
-use Rattle.vt_nodes.specs.Lines.{begins_with}
+use Rattle.vt_nodes.specs.inside.First.{first_fails}
+use Rattle.vt_nodes.specs.inside.Lines.{begins_with}
 use Rattle.vt_nodes.proofs.Further.{IsFurther, further, parted-here}
 use Rattle.vt_nodes.proofs.passing.pass_row.Goals as goal
 

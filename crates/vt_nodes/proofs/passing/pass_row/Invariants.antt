@@ -1,6 +1,6 @@
 use Rattle.std.proofs.Common.{◌≡◌, ◌++◌, length}
-use Rattle.vt_nodes.specs.First.{before_first, from_first}
-use Rattle.vt_nodes.specs.Lines.{begins_with}
+use Rattle.vt_nodes.specs.inside.First.{before_first, from_first}
+use Rattle.vt_nodes.specs.inside.Lines.{begins_with}
 use Rattle.vt_nodes.proofs.passing.pass_row.Given as goal
 
 abbrev pub invariant-loop-path : goal.invariant-loop-path

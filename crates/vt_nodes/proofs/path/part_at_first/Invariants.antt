@@ -1,5 +1,5 @@
 use Rattle.std.proofs.Common.{◌≡◌, ◌++◌, length}
-use Rattle.vt_nodes.specs.First.{before_first, from_first}
+use Rattle.vt_nodes.specs.inside.First.{before_first, from_first}
 use Rattle.vt_nodes.proofs.path.part_at_first.Given as goal
 
 abbrev pub invariant-loop-path : goal.invariant-loop-path

@@ -1,5 +1,6 @@
 use Rattle.std.proofs.Common.{◌≡◌, ◌++◌, map, take}
-use Rattle.vt_options.specs.Line.{names_of, once, options_of}
+use Rattle.vt_options.specs.promise.Line.{once}
+use Rattle.vt_options.specs.inside.Line.{names_of, options_of}
 use Rattle.vt_options.proofs.asking.add_all.Given as goal
 
 -- the options so far were added

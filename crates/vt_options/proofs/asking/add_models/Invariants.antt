@@ -1,6 +1,8 @@
 use Rattle.std.proofs.Common.{◌≡◌, ◌++◌, map, take}
-use Rattle.vt_options.specs.Line.{once, options_of}
-use Rattle.vt_options.specs.Own.{table_names, tables_of}
+use Rattle.vt_options.specs.promise.Line.{once}
+use Rattle.vt_options.specs.inside.Line.{options_of}
+use Rattle.vt_options.specs.promise.Own.{table_names}
+use Rattle.vt_options.specs.inside.Own.{tables_of}
 use Rattle.vt_options.proofs.asking.add_models.Given as goal
 
 -- the options of the models so far were added

@@ -1,6 +1,7 @@
 use Rattle.std.proofs.Common.{◌≡◌, ◌++◌, take, map}
-use Rattle.vt_options.specs.Line.{helps_of, once, options_of}
-use Rattle.vt_options.specs.Own.{number_table}
+use Rattle.vt_options.specs.promise.Line.{once}
+use Rattle.vt_options.specs.inside.Line.{helps_of, options_of}
+use Rattle.vt_options.specs.promise.Own.{number_table}
 use Rattle.vt_options.proofs.asking.add_own.Given as goal
 
 -- the options so far were added, with their help

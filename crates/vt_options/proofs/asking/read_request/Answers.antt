@@ -1,6 +1,7 @@
 use Rattle.std.proofs.Common.{map}
 use Rattle.std.proofs.lemmas.Result.{err_from_is_err_and}
-use Rattle.vt_options.specs.Own.{app_for, line_for, models_of}
+use Rattle.vt_options.specs.promise.Own.{app_for, line_for}
+use Rattle.vt_options.specs.inside.Own.{models_of}
 use Rattle.vt_options.proofs.RequestLemmas.{refused_by_parser}
 use Rattle.vt_options.proofs.asking.read_request.Goals as goal
 

@@ -2,8 +2,9 @@ use Rattle.std.proofs.Common.{List, [], ◌≡◌, ◌≢◌, ◌∙◌, ap, sym
 use Rattle.std.proofs.lemmas.Result.{err_from_is_err_and}
 use Rattle.clap.specs.Words.{App, Text, fault_of, subcommand_of, subcommand_name_of, subcommand_rows_of}
 use Rattle.clap.specs.declared.parser.matches.ArgMatches.{ArgMatches}
-use Rattle.vt_options.specs.Own.{app_for, models_of}
-use Rattle.vt_options.specs.Requests.{AreBy}
+use Rattle.vt_options.specs.promise.Own.{app_for}
+use Rattle.vt_options.specs.inside.Own.{models_of}
+use Rattle.vt_options.specs.promise.Requests.{AreBy}
 use Rattle.vt_options.proofs.RequestLemmas.{given_is, met, texts_are}
 use Rattle.vt_options.proofs.OwnLemmas.{run_given, replay_given, run_refused, replay_refused}
 use Rattle.vt_options.proofs.asking.request_of.Goals as goal

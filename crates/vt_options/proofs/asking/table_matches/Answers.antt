@@ -1,7 +1,9 @@
 use Rattle.std.proofs.Common.{◌≡◌, ◌∙◌, [], IfOk, IfErr, ap, ap₂, map, subst}
 use Rattle.clap.specs.Words.{App, HasKind, fault_of, subcommand_of, subcommand_rows_of}
-use Rattle.vt_options.specs.Line.{options_of, program_app}
-use Rattle.vt_options.specs.Own.{app_for, models_of}
+use Rattle.vt_options.specs.promise.Line.{program_app}
+use Rattle.vt_options.specs.inside.Line.{options_of}
+use Rattle.vt_options.specs.promise.Own.{app_for}
+use Rattle.vt_options.specs.inside.Own.{models_of}
 use Rattle.vt_options.proofs.asking.table_matches.Given.{Over}
 use Rattle.vt_options.proofs.asking.table_matches.Goals.{After-matches_in}
 use Rattle.vt_options.proofs.asking.table_matches.Goals as goal

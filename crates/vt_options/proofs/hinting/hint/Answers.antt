@@ -1,10 +1,12 @@
 use Rattle.std.proofs.Common.{rules, ◌≡◌, ◌⊎◌, ◌∙◌, sym, inl, inr, Some, None, codes, map, subst}
 use Rattle.std.proofs.lemmas.Option.{IfSome_then}
 use Rattle.vt_key.specs.declared.fault.Fault.{Fault}
-use Rattle.vt_options.specs.Line.{given_by, texts_by}
-use Rattle.vt_options.specs.Programs.{SetsNothing}
-use Rattle.vt_options.specs.Own.{app_for, line_for, models_of}
-use Rattle.vt_options.specs.Requests.{IsRefusedByOf, IsRefusedAsOf}
+use Rattle.vt_options.specs.promise.Line.{given_by, texts_by}
+use Rattle.vt_options.specs.inside.Programs.{SetsNothing}
+use Rattle.vt_options.specs.promise.Own.{app_for, line_for}
+use Rattle.vt_options.specs.inside.Own.{models_of}
+use Rattle.vt_options.specs.promise.Requests.{IsRefusedAsOf}
+use Rattle.vt_options.specs.inside.Requests.{IsRefusedByOf}
 use Rattle.vt_options.proofs.RequestLemmas.{given_is, met, texts_are}
 use Rattle.vt_options.proofs.hinting.hint.Given.{Over}
 use Rattle.vt_options.proofs.hinting.hint.Goals.{After-table_matches}

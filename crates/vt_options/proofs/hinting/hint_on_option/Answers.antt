@@ -1,6 +1,6 @@
 use Rattle.std.proofs.Common.{sym, subst}
 use Rattle.std.proofs.lemmas.Option.{IfSome_then}
-use Rattle.vt_options.specs.Shown.{IsShownWord}
+use Rattle.vt_options.specs.inside.Shown.{IsShownWord}
 use Rattle.vt_options.proofs.hinting.hint_on_option.Goals as goal
 
 pub returns : goal.returns

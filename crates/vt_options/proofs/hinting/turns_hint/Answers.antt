@@ -2,8 +2,9 @@ use Rattle.std.proofs.Common.{map, subst, arith}
 use Rattle.std.proofs.lemmas.Option.{IfSome_then}
 use Rattle.vt_options.specs.declared.asking.Request.{Request}
 use Rattle.vt_options.specs.declared.choices.Task.{Task}
-use Rattle.vt_options.specs.Asked.{AskTaskWith, IsAsked}
-use Rattle.vt_options.specs.Own.{models_of}
+use Rattle.vt_options.specs.promise.Asked.{AskTaskWith}
+use Rattle.vt_options.specs.inside.Asked.{IsAsked}
+use Rattle.vt_options.specs.inside.Own.{models_of}
 use Rattle.vt_options.proofs.hinting.turns_hint.Goals as goal
 
 pub returns : goal.returns

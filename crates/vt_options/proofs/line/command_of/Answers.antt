@@ -1,6 +1,6 @@
 use Rattle.std.proofs.Common.{◌∙◌, rules, ap₂, sym}
 use Rattle.clap.specs.Words.{new_app, with_rule}
-use Rattle.vt_options.specs.Line.{option_of}
+use Rattle.vt_options.specs.inside.Line.{option_of}
 use Rattle.vt_options.proofs.LineLemmas.{options_more}
 use Rattle.vt_options.proofs.line.command_of.Goals as goal
 

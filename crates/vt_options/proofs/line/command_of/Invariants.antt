@@ -1,7 +1,8 @@
 use Rattle.std.proofs.Common.{◌≡◌, false, take, map}
 use Rattle.clap.specs.Words.{app_of, new_app}
 use Rattle.clap.specs.declared.builder.command.Command.TheViews.{out-Command}
-use Rattle.vt_options.specs.Line.{option_of, with_options}
+use Rattle.vt_options.specs.promise.Line.{with_options}
+use Rattle.vt_options.specs.inside.Line.{option_of}
 use Rattle.vt_options.proofs.line.command_of.Given as goal
 
 -- the command with the options so far

@@ -1,7 +1,8 @@
 use Rattle.std.proofs.Common.{◌≡◌, [], IfOk, MatchResult, map, subst}
 use Rattle.std.proofs.lemmas.Result.{IfOk-weaker}
 use Rattle.clap.specs.Words.{App, HasKind, fault_of, subcommand_of, subcommand_rows_of}
-use Rattle.vt_options.specs.Line.{options_of, program_app}
+use Rattle.vt_options.specs.promise.Line.{program_app}
+use Rattle.vt_options.specs.inside.Line.{options_of}
 use Rattle.vt_options.proofs.LineLemmas.{free_as, simple_as, ok_part, err_part}
 use Rattle.vt_options.proofs.line.matches_in.Given.{Over}
 use Rattle.vt_options.proofs.line.matches_in.Goals.{After-try_get_matches_from}

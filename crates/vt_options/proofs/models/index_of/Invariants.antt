@@ -1,5 +1,6 @@
 use Rattle.std.proofs.Common.{◌≡◌, None, take}
-use Rattle.vt_options.specs.Own.{index_from, model_names}
+use Rattle.vt_options.specs.promise.Own.{index_from}
+use Rattle.vt_options.specs.inside.Own.{model_names}
 use Rattle.vt_options.proofs.models.index_of.Given as goal
 
 -- no model so far has the name

@@ -5,7 +5,8 @@ use Rattle.std.proofs.lemmas.Result.{err_from_is_err_and}
 use Rattle.clap.specs.Words.{first_value, found_of}
 use Rattle.vt_key.proofs.ResultLemmas.{if_refused}
 use Rattle.vt_options.specs.declared.own.ModelOptions.{ModelOptions}
-use Rattle.vt_options.specs.Own.{AreInRange, GiveValues, first_bad_in, has_default, tables_of}
+use Rattle.vt_options.specs.promise.Own.{AreInRange, GiveValues, first_bad_in, has_default}
+use Rattle.vt_options.specs.inside.Own.{tables_of}
 use Rattle.vt_options.proofs.OwnLemmas.{all_at}
 use Rattle.vt_options.proofs.ModelLemmas.{given_here, good_more, of_wanted, refused, within_here}
 use Rattle.vt_options.proofs.models.model_values.Goals.{then-index-wanted, else-index-wanted}

@@ -1,6 +1,7 @@
 use Rattle.std.proofs.Common.{◌≡◌, ◌<◌, ◌≤◌, [], None, get_or, take}
 use Rattle.clap.specs.Words.{first_value, found_of}
-use Rattle.vt_options.specs.Own.{AreInRange, GiveValues, first_bad_in, tables_of}
+use Rattle.vt_options.specs.promise.Own.{AreInRange, GiveValues, first_bad_in}
+use Rattle.vt_options.specs.inside.Own.{tables_of}
 use Rattle.vt_options.proofs.models.model_values.Given as goal
 
 -- the values are there once the wanted model was met, and no option so far is bad

@@ -3,8 +3,8 @@ use Rattle.std.proofs.lemmas.List.{take_all}
 use Rattle.std.proofs.lemmas.Result.{err_from_is_err_and}
 use Rattle.clap.specs.Words.{first_value, found_of}
 use Rattle.vt_options.specs.declared.own.OwnOption.{OwnOption}
-use Rattle.vt_options.specs.Table.{first_bad_of}
-use Rattle.vt_options.specs.Own.{AreWithin, GiveValues, has_default, number_table}
+use Rattle.vt_options.specs.promise.Table.{first_bad_of}
+use Rattle.vt_options.specs.promise.Own.{AreWithin, GiveValues, has_default, number_table}
 use Rattle.vt_key.proofs.ResultLemmas.{if_refused}
 use Rattle.vt_options.proofs.OwnLemmas.{all_at, values_more, good_more, within_more, refused}
 use Rattle.vt_options.proofs.own.own_options.Goals as goal

@@ -1,7 +1,7 @@
 use Rattle.std.proofs.Common.{◌≡◌, None, take}
 use Rattle.clap.specs.Words.{first_value, found_of}
-use Rattle.vt_options.specs.Table.{first_bad_of}
-use Rattle.vt_options.specs.Own.{AreWithin, GiveValues, number_table}
+use Rattle.vt_options.specs.promise.Table.{first_bad_of}
+use Rattle.vt_options.specs.promise.Own.{AreWithin, GiveValues, number_table}
 use Rattle.vt_options.proofs.own.own_options.Given as goal
 
 -- the options so far have these values

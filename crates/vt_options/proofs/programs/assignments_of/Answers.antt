@@ -1,5 +1,5 @@
 use Rattle.std.proofs.Common.{◌+◌, inr, map, refl, subst, sym, take}
-use Rattle.vt_options.specs.Programs.{SetNumbers}
+use Rattle.vt_options.specs.promise.Programs.{SetNumbers}
 use Rattle.vt_options.proofs.ProgramLemmas.{bad_here, good_more, now_of, sets_more}
 use Rattle.vt_options.proofs.programs.assignments_of.Goals as goal
 

@@ -1,5 +1,5 @@
 use Rattle.std.proofs.Common.{◌≡◌, None, map, take}
-use Rattle.vt_options.specs.Programs.{SetNumbers, bad_sets}
+use Rattle.vt_options.specs.promise.Programs.{SetNumbers, bad_sets}
 use Rattle.vt_options.proofs.programs.assignments_of.Given as goal
 
 -- the texts so far set these numbers

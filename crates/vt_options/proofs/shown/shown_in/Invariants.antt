@@ -1,7 +1,7 @@
 use Rattle.std.proofs.Common.{◌++◌, length, drop, string_bytes}
 use Rattle.std.specs.Str.{chars}
 use Rattle.clap.specs.Words.{Text}
-use Rattle.vt_options.specs.Shown.{IsShownIn}
+use Rattle.vt_options.specs.inside.Shown.{IsShownIn}
 use Rattle.vt_options.proofs.shown.shown_in.Given as goal
 
 -- what shows the characters that are left shows, behind the text so far, all

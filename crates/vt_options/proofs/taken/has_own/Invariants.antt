@@ -1,5 +1,5 @@
 use Rattle.std.proofs.Common.{◌≡◌, false, take}
-use Rattle.vt_options.specs.Taken.{is_among, own_names}
+use Rattle.vt_options.specs.inside.Taken.{is_among, own_names}
 use Rattle.vt_options.proofs.taken.has_own.Given as goal
 
 -- no option so far has the name

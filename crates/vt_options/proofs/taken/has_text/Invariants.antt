@@ -1,6 +1,6 @@
 use Rattle.std.proofs.Common.{◌≡◌, false, take}
-use Rattle.vt_options.specs.Line.{names_of}
-use Rattle.vt_options.specs.Taken.{is_among}
+use Rattle.vt_options.specs.inside.Line.{names_of}
+use Rattle.vt_options.specs.inside.Taken.{is_among}
 use Rattle.vt_options.proofs.taken.has_text.Given as goal
 
 -- no option so far has the name

@@ -1,5 +1,5 @@
 use Rattle.std.proofs.Common.{◌≡◌, length}
-use Rattle.vt_options.specs.Taken.{own_names, taken_in}
+use Rattle.vt_options.specs.inside.Taken.{own_names, taken_in}
 use Rattle.vt_options.proofs.taken.taken_name.Given as goal
 
 -- no option so far has a name that is taken

@@ -1,7 +1,7 @@
 use Rattle.std.proofs.Common.{◌∙◌, List, ap}
-use Rattle.vt_key.specs.Times.{earlier}
+use Rattle.vt_key.specs.promise.Times.{earlier}
 use Rattle.vt_key.specs.declared.letter.Letter.{Letter}
-use Rattle.vt_steps.specs.Letters.{least_time}
+use Rattle.vt_steps.specs.promise.Letters.{least_time}
 use Rattle.vt_steps.proofs.TimeLemmas.{same_low, earlier-end}
 use Rattle.vt_outbox.proofs.outbox.least_of_letters.Goals as goal
 

@@ -1,6 +1,6 @@
 use Rattle.std.proofs.Common.{◌≡◌}
-use Rattle.vt_key.specs.Times.{TimeAtMost, earlier}
-use Rattle.vt_steps.specs.Letters.{least_time}
+use Rattle.vt_key.specs.promise.Times.{TimeAtMost, earlier}
+use Rattle.vt_steps.specs.promise.Letters.{least_time}
 use Rattle.vt_outbox.proofs.outbox.least_of_letters.Given as goal
 
 abbrev pub invariant-loop-letter : goal.invariant-loop-letter

@@ -1,6 +1,6 @@
 use Rattle.std.proofs.Common.{◌≡◌, ◌+◌, ◌-◌, ◌∙◌, true, false, sym, ap, arith}
-use Rattle.vt_stream.specs.Words.{word_of, moved}
-use Rattle.vt_parts.specs.Drawing.{happens, first_hit, tries}
+use Rattle.vt_stream.specs.inside.Words.{word_of, moved}
+use Rattle.vt_parts.specs.inside.Drawing.{happens, first_hit, tries}
 use Rattle.vt_parts.proofs.DrawingLemmas.{hit_now, hit_later, word_here, moved_more}
 use Rattle.vt_parts.proofs.drawing.geometric.Goals as goal
 

@@ -1,6 +1,6 @@
 use Rattle.std.proofs.Common.{◌≡◌, ◌+◌, ◌-◌, ◌<◌}
-use Rattle.vt_stream.specs.Words.{word_of, moved}
-use Rattle.vt_parts.specs.Drawing.{first_hit, failures}
+use Rattle.vt_stream.specs.inside.Words.{word_of, moved}
+use Rattle.vt_parts.specs.inside.Drawing.{first_hit, failures}
 use Rattle.vt_parts.proofs.drawing.geometric.Given as goal
 
 abbrev pub invariant-tries : goal.invariant-tries

@@ -1,5 +1,5 @@
 use Rattle.std.proofs.Common.{◌≡◌, ◌+◌, drop}
-use Rattle.vt_parts.specs.Drawing.{chosen}
+use Rattle.vt_parts.specs.inside.Drawing.{chosen}
 use Rattle.vt_parts.proofs.drawing.index_at.Given as goal
 
 abbrev pub invariant-weights : goal.invariant-weights

@@ -1,5 +1,5 @@
 use Rattle.std.proofs.Common.{arith}
-use Rattle.vt_parts.specs.DrawingLaws.{chosen_within}
+use Rattle.vt_parts.specs.inside.DrawingLaws.{chosen_within}
 use Rattle.vt_parts.proofs.drawing.weighted.Goals as goal
 
 pub returns-clause-within : goal.returns-clause-within

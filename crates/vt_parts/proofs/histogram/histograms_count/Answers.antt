@@ -1,4 +1,4 @@
-use Rattle.vt_parts.specs.HistogramLaws.{empty_histogram_is, counted_is, uncounted_counted}
+use Rattle.vt_parts.specs.inside.HistogramLaws.{empty_histogram_is, counted_is, uncounted_counted}
 use Rattle.vt_parts.proofs.HistogramTotal.{total_counted}
 use Rattle.vt_parts.proofs.histogram.histograms_count.Goals as goal
 

@@ -1,4 +1,4 @@
-use Rattle.vt_parts.specs.RingLaws.{pushed_is, popped_is, push_refused, pop_refused, unpushed_pushed, unpopped_popped}
+use Rattle.vt_parts.specs.inside.RingLaws.{pushed_is, popped_is, push_refused, pop_refused, unpushed_pushed, unpopped_popped}
 use Rattle.vt_parts.proofs.RingItems.{held_pushed, first_held, held_popped}
 use Rattle.vt_parts.proofs.ring.rings_are_queues.Goals as goal
 

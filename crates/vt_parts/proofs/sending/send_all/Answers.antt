@@ -1,11 +1,12 @@
 use Rattle.std.proofs.Common.{◌≡◌, ℕ, ◌+◌, ◌<◌, ◌%◌, List, [], ◌∷◌, ◌++◌, ◌∙◌, length, map, take, get_or, sym, ap, subst, arith}
 use Rattle.std.proofs.Math.Nat.{mod-lt}
 use Rattle.std.proofs.lemmas.List.{length-map, length-take-le, map-append, take_more}
-use Rattle.vt_key.specs.Times.{TimeBefore, at, ticks_of}
-use Rattle.vt_model.specs.Sends.{SendRequest, Outgoing, with_requests}
+use Rattle.vt_key.specs.promise.Times.{TimeBefore, at, ticks_of}
+use Rattle.vt_model.specs.promise.Sends.{SendRequest}
+use Rattle.vt_model.specs.inside.Sends.{Outgoing, with_requests}
 use Rattle.vt_model.proofs.Sizes.{out_fits}
 use Rattle.vt_model.proofs.RequestLemmas.{no_requests, sent_after}
-use Rattle.vt_parts.specs.Sending.{entry_send, entry_sends}
+use Rattle.vt_parts.specs.inside.Sending.{entry_send, entry_sends}
 use Rattle.vt_parts.proofs.sending.send_all.Goals as goal
 
 pub entries-init : goal.entries-init

@@ -1,6 +1,6 @@
 use Rattle.std.proofs.Common.{◌≡◌, [], take}
-use Rattle.vt_model.specs.Sends.{with_requests}
-use Rattle.vt_parts.specs.Sending.{entry_sends}
+use Rattle.vt_model.specs.inside.Sends.{with_requests}
+use Rattle.vt_parts.specs.inside.Sending.{entry_sends}
 use Rattle.vt_parts.proofs.sending.send_all.Given as goal
 
 abbrev pub invariant-entries : goal.invariant-entries

@@ -1,7 +1,7 @@
 use Rattle.std.proofs.Common.{◌∙◌, ap, sym, Some}
 use Rattle.std.specs.Option.{option_copied}
 use Rattle.vt_key.specs.declared.letter.Letter.{Letter}
-use Rattle.vt_past.specs.Events.{rank_of_last}
+use Rattle.vt_past.specs.inside.Events.{rank_of_last}
 use Rattle.vt_past.proofs.LastLemmas.{last-at}
 use Rattle.vt_past.proofs.past.rank_of_last.Goals as goal
 

@@ -1,5 +1,5 @@
 use Rattle.std.proofs.Common.{◌≡◌}
-use Rattle.vt_pending.specs.Buckets.{list_at}
+use Rattle.vt_pending.specs.inside.Buckets.{list_at}
 use Rattle.vt_pending.proofs.buckets.find_in.Given as goal
 
 abbrev pub invariant-loop-list : goal.invariant-loop-list

@@ -1,7 +1,7 @@
 use Rattle.std.proofs.Common.{◌≡◌}
 use Rattle.std.specs.Prelude.{None}
 use Rattle.std.specs.Option.{option_copied}
-use Rattle.vt_pending.specs.Buckets.{least_from}
+use Rattle.vt_pending.specs.inside.Buckets.{least_from}
 use Rattle.vt_pending.proofs.buckets.find_least.Given as goal
 
 abbrev pub invariant-loop-list : goal.invariant-loop-list

@@ -1,6 +1,7 @@
 use Rattle.std.proofs.Common.{◌≡◌, ◌++◌, Result, Ok, Err, IfOk, IfErr, sym, ap, ◌∙◌}
-use Rattle.vt_key.specs.Queues.{letter_rank, holds_rank}
-use Rattle.vt_pending.specs.Buckets.{list_at, first_holds, insert_here, insert_in, letters_of}
+use Rattle.vt_key.specs.promise.Queues.{letter_rank}
+use Rattle.vt_key.specs.inside.Queues.{holds_rank}
+use Rattle.vt_pending.specs.inside.Buckets.{list_at, first_holds, insert_here, insert_in, letters_of}
 use Rattle.vt_pending.proofs.Rows.{own}
 use Rattle.vt_pending.proofs.Inserting.{insert-parted, list-ahead, held-ahead}
 use Rattle.vt_pending.proofs.buckets.insert_in.Given.{Over}

@@ -1,5 +1,5 @@
 use Rattle.std.proofs.Common.{nat_lt, ap, ◌∙◌}
-use Rattle.vt_key.specs.Times.{ticks_of}
+use Rattle.vt_key.specs.promise.Times.{ticks_of}
 use Rattle.vt_pending.proofs.Placing.{by-ticks}
 use Rattle.vt_pending.proofs.buckets.is_earlier.Goals as goal
 

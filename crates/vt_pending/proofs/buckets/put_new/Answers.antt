@@ -1,7 +1,7 @@
 use Rattle.std.proofs.Common.{◌++◌, ◌∷◌, slice_get, sym, ap, ◌∙◌}
-use Rattle.vt_key.specs.Queues.{letter_rank, insert_letter}
+use Rattle.vt_key.specs.promise.Queues.{letter_rank, insert_letter}
 use Rattle.vt_list.proofs.Firsts.{find-from}
-use Rattle.vt_pending.specs.Letters.{some_has_rank, is_reached, reached_has}
+use Rattle.vt_pending.specs.inside.Letters.{some_has_rank, is_reached, reached_has}
 use Rattle.vt_pending.proofs.Inserting.{insert-reached}
 use Rattle.vt_pending.proofs.buckets.put_new.Goals as goal
 

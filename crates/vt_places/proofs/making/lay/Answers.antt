@@ -1,8 +1,8 @@
 use Rattle.std.proofs.Common.{rules, ◌≡◌, ℕ, List, replicate, length, get_or, refl, ap, ◌∙◌}
 use lib.ListN.{length-replicate}
-use Rattle.vt_model.specs.Simulation.{simulation_of}
+use Rattle.vt_model.specs.promise.Simulation.{simulation_of}
 use Rattle.vt_key.proofs.ResultLemmas.{if_refused}
-use Rattle.vt_places.specs.Slots.{cell_count, word_at}
+use Rattle.vt_places.specs.inside.Slots.{cell_count, word_at}
 use Rattle.vt_places.proofs.Seating.{starts}
 use Rattle.vt_places.proofs.Opening.{opening-inbox, slots-count, slots-full, blank-words}
 use Rattle.vt_places.proofs.making.lay.Goals as goal

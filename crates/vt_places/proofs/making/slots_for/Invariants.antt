@@ -1,7 +1,7 @@
 use Rattle.std.proofs.Common.{◌≡◌, ℕ, [], length}
 use Rattle.std.specs.List.{AllByRecursion}
-use Rattle.vt_steps.specs.Cells.{in_inbox}
-use Rattle.vt_places.specs.Slots.{held_in, IsSlotOf}
+use Rattle.vt_steps.specs.inside.Cells.{in_inbox}
+use Rattle.vt_places.specs.inside.Slots.{held_in, IsSlotOf}
 use Rattle.vt_places.proofs.making.slots_for.Given as goal
 
 abbrev pub invariant-loop : goal.invariant-loop

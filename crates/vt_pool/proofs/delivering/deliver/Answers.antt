@@ -3,17 +3,18 @@ use Rattle.std.specs.List.{AllByRecursion}
 use Rattle.std.proofs.Math.ListN.{drop_of_length-le}
 use Rattle.std.proofs.Math.Seq.{drop-cons}
 use Rattle.std.proofs.lemmas.Bool.{cases_Bool}
-use Rattle.vt_key.specs.Order.{rank_before}
-use Rattle.vt_key.specs.Queues.{letter_rank, has_rank, holds_rank}
+use Rattle.vt_key.specs.promise.Order.{rank_before}
+use Rattle.vt_key.specs.promise.Queues.{letter_rank, has_rank}
+use Rattle.vt_key.specs.inside.Queues.{holds_rank}
 use Rattle.vt_key.specs.declared.order.Stamp.{Stamp}
 use Rattle.vt_key.specs.declared.letter.Letter.{Letter}
 use Rattle.vt_key.specs.declared.letter.Sign.TheVariants.{Plus}
 use Rattle.vt_key.proofs.ListLemmas.{every-weaker, every-insert_ordered}
 use Rattle.vt_model.specs.declared.sending.Sent.{Sent}
-use Rattle.vt_steps.specs.Letters.{stamped, signed}
+use Rattle.vt_steps.specs.promise.Letters.{stamped, signed}
 use Rattle.vt_lp.proofs.Stamping.{event_of}
-use Rattle.vt_outbox.specs.Outbox.{HeldOutbox}
-use Rattle.vt_pool.specs.Executing.{ComesHome, AreDelivered}
+use Rattle.vt_outbox.specs.inside.Outbox.{HeldOutbox}
+use Rattle.vt_pool.specs.inside.Executing.{ComesHome, AreDelivered}
 use Rattle.vt_pool.proofs.GuardLemmas.{none-any, differs-by_stamp}
 use Rattle.vt_pool.proofs.delivering.deliver.Given.{Over}
 use Rattle.vt_pool.proofs.delivering.deliver.Goals.{After-put-letter}

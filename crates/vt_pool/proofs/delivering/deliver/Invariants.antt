@@ -1,10 +1,10 @@
 use Rattle.std.proofs.Common.{◌≡◌, ◌+◌, ◌≤◌, ℕ, List, map, drop}
 use Rattle.std.specs.List.{AllByRecursion}
-use Rattle.vt_key.specs.Queues.{letter_rank}
+use Rattle.vt_key.specs.promise.Queues.{letter_rank}
 use Rattle.vt_key.specs.declared.letter.Letter.{Letter}
 use Rattle.vt_key.specs.declared.letter.Sign.TheVariants.{Plus}
-use Rattle.vt_steps.specs.Letters.{stamped, signed}
-use Rattle.vt_pool.specs.Executing.{AreDelivered}
+use Rattle.vt_steps.specs.promise.Letters.{stamped, signed}
+use Rattle.vt_pool.specs.inside.Executing.{AreDelivered}
 use Rattle.vt_pool.proofs.delivering.deliver.Given as goal
 
 abbrev pub invariant-loop-send : goal.invariant-loop-send

@@ -1,17 +1,18 @@
 use Rattle.std.proofs.Common.{◌≡◌, ◌∙◌, ◌<◌, ℕ, inl, inr, List, [], map, length, ap, sym, subst, refl, arith}
 use Rattle.std.specs.List.{All}
-use Rattle.vt_key.specs.Times.{TimeBefore}
+use Rattle.vt_key.specs.promise.Times.{TimeBefore}
 use Rattle.vt_key.specs.declared.letter.Sign.TheVariants.{Minus}
-use Rattle.vt_stream.specs.Words.{Stream}
+use Rattle.vt_stream.specs.inside.Words.{Stream}
 use Rattle.vt_model.specs.declared.sending.Sent.{Sent}
-use Rattle.vt_model.specs.Handler.{IsFresh}
-use Rattle.vt_model.specs.Process.{triple_at, IsProcessStream}
-use Rattle.vt_model.specs.Simulation.{Triple, IsFiring, simulation_of}
-use Rattle.vt_model.specs.Settings.{end_of}
+use Rattle.vt_model.specs.inside.Handler.{IsFresh}
+use Rattle.vt_model.specs.inside.Process.{triple_at, IsProcessStream}
+use Rattle.vt_model.specs.promise.Simulation.{Triple, simulation_of}
+use Rattle.vt_model.specs.inside.Simulation.{IsFiring}
+use Rattle.vt_model.specs.promise.Settings.{end_of}
 use Rattle.vt_model.proofs.LawLemmas.{lawful_of}
 use Rattle.vt_model.proofs.Sizes.{out_fits}
-use Rattle.vt_steps.specs.Letters.{unstamped, stamped, signed}
-use Rattle.vt_lp.specs.Held.{IsReady}
+use Rattle.vt_steps.specs.promise.Letters.{unstamped, stamped, signed}
+use Rattle.vt_lp.specs.inside.Held.{IsReady}
 use Rattle.vt_lp.proofs.Stamping.{letters-all}
 use Rattle.vt_lp.proofs.Advancing.{remembers, few-records, stream-back}
 use Rattle.vt_pool.proofs.executing.fire.Given.{Over}

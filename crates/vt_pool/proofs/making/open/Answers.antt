@@ -1,10 +1,10 @@
 use Rattle.std.proofs.Common.{◌≡◌, length, map, arith, ap, refl, sym, subst}
 use Rattle.vt_model.specs.declared.process.Process.{Process}
-use Rattle.vt_model.specs.Process.{triple_at}
-use Rattle.vt_outbox.specs.Outbox.{HeldOutbox}
-use Rattle.vt_pool.specs.View.{Stock}
-use Rattle.vt_pool.specs.Logged.{placed, AreMade}
-use Rattle.vt_pool.specs.Share.{HeldPool}
+use Rattle.vt_model.specs.inside.Process.{triple_at}
+use Rattle.vt_outbox.specs.inside.Outbox.{HeldOutbox}
+use Rattle.vt_pool.specs.inside.View.{Stock}
+use Rattle.vt_pool.specs.inside.Logged.{placed, AreMade}
+use Rattle.vt_pool.specs.inside.Share.{HeldPool}
 use Rattle.vt_pool.proofs.OpeningLemmas.{opened-inside, opened-stands, stock_of, standing}
 use Rattle.vt_pool.proofs.making.open.Goals as goal
 

@@ -4,15 +4,15 @@ use Rattle.std.proofs.lemmas.List.Elements.{All-append}
 use Rattle.std.proofs.Math.Nat.{suc-mul}
 use Rattle.vt_key.specs.declared.letter.Sign.TheVariants.{Plus}
 use Rattle.vt_model.specs.declared.process.Process.{Process}
-use Rattle.vt_model.specs.Settings.{end_of}
-use Rattle.vt_model.specs.Simulation.{simulation_of}
-use Rattle.vt_steps.specs.Letters.{stamped, signed}
-use Rattle.vt_steps.specs.World.{process_at}
-use Rattle.vt_lp.specs.Held.{AllWithinRun, IsWithinRun}
-use Rattle.vt_outbox.specs.Outbox.{HeldOutbox}
+use Rattle.vt_model.specs.promise.Settings.{end_of}
+use Rattle.vt_model.specs.promise.Simulation.{simulation_of}
+use Rattle.vt_steps.specs.promise.Letters.{stamped, signed}
+use Rattle.vt_steps.specs.promise.World.{process_at}
+use Rattle.vt_lp.specs.inside.Held.{AllWithinRun, IsWithinRun}
+use Rattle.vt_outbox.specs.inside.Outbox.{HeldOutbox}
 use Rattle.vt_kernel.proofs.MakeLemmas.{started_sends, started-more, places-done, place-own, stamped-append, few-sent}
-use Rattle.vt_pool.specs.View.{number_at}
-use Rattle.vt_pool.specs.Opening.{AreStarted, IsStarted}
+use Rattle.vt_pool.specs.inside.View.{number_at}
+use Rattle.vt_pool.specs.inside.Opening.{AreStarted, IsStarted}
 use Rattle.vt_pool.proofs.OpeningLemmas as opening
 use Rattle.vt_pool.proofs.making.start_all.Goals as goal
 

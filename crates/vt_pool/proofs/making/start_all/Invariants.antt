@@ -1,10 +1,10 @@
 use Rattle.std.proofs.Common.{◌≡◌, ◌+◌, ◌-◌, ◌*◌, ◌<◌, length, map}
 use Rattle.vt_key.specs.declared.letter.Sign.TheVariants.{Plus}
-use Rattle.vt_model.specs.Simulation.{simulation_of}
-use Rattle.vt_steps.specs.Letters.{stamped, signed}
-use Rattle.vt_lp.specs.Held.{AllWithinRun}
+use Rattle.vt_model.specs.promise.Simulation.{simulation_of}
+use Rattle.vt_steps.specs.promise.Letters.{stamped, signed}
+use Rattle.vt_lp.specs.inside.Held.{AllWithinRun}
 use Rattle.vt_kernel.proofs.MakeLemmas.{started_sends}
-use Rattle.vt_pool.specs.Opening.{AreStarted}
+use Rattle.vt_pool.specs.inside.Opening.{AreStarted}
 use Rattle.vt_pool.proofs.making.start_all.Given as goal
 
 abbrev pub invariant-loop-p : goal.invariant-loop-p

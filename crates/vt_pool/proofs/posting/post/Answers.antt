@@ -2,7 +2,7 @@ use Rattle.std.proofs.Common.{◌≡◌, ◌+◌, ◌∙◌, length, map, List, 
 use Rattle.std.proofs.lemmas.List.{take_more}
 use Rattle.vt_key.specs.declared.letter.Letter.{Letter}
 use Rattle.vt_model.specs.declared.sending.Sent.{Sent}
-use Rattle.vt_steps.specs.Letters.{stamped, signed}
+use Rattle.vt_steps.specs.promise.Letters.{stamped, signed}
 use Rattle.vt_lp.proofs.Stamping.{event_of, letters-more}
 use Rattle.vt_pool.proofs.posting.post.Goals as goal
 

@@ -1,5 +1,5 @@
 use Rattle.std.proofs.Common.{◌≡◌, ◌+◌, ◌++◌, [], ◌∷◌, map, take}
-use Rattle.vt_steps.specs.Letters.{stamped, signed}
+use Rattle.vt_steps.specs.promise.Letters.{stamped, signed}
 use Rattle.vt_pool.proofs.posting.post.Given as goal
 
 abbrev pub ghost-push : goal.ghost-push

@@ -1,8 +1,8 @@
 use Rattle.std.proofs.Common.{codes, inr, map, subst}
 use Rattle.std.proofs.lemmas.Option.{IfSome_then}
 use Rattle.vt_options.specs.declared.asking.Request.{Request}
-use Rattle.vt_options.specs.Asked.{IsAsked}
-use Rattle.vt_command.specs.Table.{twarp_models}
+use Rattle.vt_options.specs.inside.Asked.{IsAsked}
+use Rattle.vt_command.specs.promise.Table.{twarp_models}
 use Rattle.vt_program.proofs.hinting.hint.Goals as goal
 
 pub returns : goal.returns

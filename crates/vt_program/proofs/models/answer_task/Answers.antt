@@ -1,8 +1,8 @@
 use Rattle.std.proofs.Common.{◌∙◌, Ok, Err, inl, inr, subst, sym}
 use Rattle.std.proofs.KnownBytes.{Keeps-refl}
 use Rattle.vt_model.specs.declared.settings.Config.{Config}
-use Rattle.vt_tasks.specs.Tasks.{BeginsWithinLimit}
-use Rattle.vt_program.specs.Models.{Makes, meaning_of}
+use Rattle.vt_tasks.specs.inside.Tasks.{BeginsWithinLimit}
+use Rattle.vt_program.specs.promise.Models.{Makes, meaning_of}
 use Rattle.vt_tasks.proofs.TaskLemmas.{carried_out, counted_with, input_kept}
 use Rattle.vt_program.proofs.models.answer_task.Goals as goal
 

@@ -1,7 +1,7 @@
 use Rattle.std.proofs.Common.{Ok, Err, Option, inl, inr, subst, sym}
 use Rattle.std.proofs.lemmas.Result.{IfOk-weaker, IfErr-weaker}
 use Rattle.vt_options.specs.declared.programs.ProgramChoice.{ProgramChoice}
-use Rattle.vt_program.specs.Models.{MakesBy}
+use Rattle.vt_program.specs.promise.Models.{MakesBy}
 use Rattle.vt_program.proofs.ProgramLemmas.{refused_so}
 use Rattle.vt_program.proofs.models.model_of.Goals as goal
 

@@ -1,6 +1,6 @@
 use Rattle.std.proofs.Common.{◌≢◌, rules, subst, sym}
-use Rattle.vt_options.specs.Own.{AreInRange}
-use Rattle.vt_command.specs.Table.{stations_table}
+use Rattle.vt_options.specs.promise.Own.{AreInRange}
+use Rattle.vt_command.specs.promise.Table.{stations_table}
 use Rattle.vt_program.proofs.ModelLemmas.{is_third, stations_within}
 use Rattle.vt_program.proofs.models.own_model.Goals as goal
 

@@ -1,7 +1,7 @@
 use Rattle.std.proofs.Common.{◌≢◌, inl, inr, rules}
 use Rattle.vt_key.proofs.ResultLemmas.{if_err}
 use Rattle.vt_guest.specs.declared.loading.Refusal.TheVariants.{Memory}
-use Rattle.vt_program.specs.Programs.{MayGive, RefusesProgram}
+use Rattle.vt_program.specs.promise.Programs.{MayGive, RefusesProgram}
 use Rattle.vt_program.proofs.ProgramLemmas.{may_give}
 use Rattle.vt_program.proofs.programs.loaded_program.Given.{Over}
 use Rattle.vt_program.proofs.programs.loaded_program.Goals.{After-load}

@@ -1,6 +1,6 @@
 use Rattle.std.proofs.lemmas.Result.{err_from_is_err_and}
 use Rattle.vt_key.proofs.ResultLemmas.{if_err}
-use Rattle.vt_program.specs.Programs.{RefusesProgram}
+use Rattle.vt_program.specs.promise.Programs.{RefusesProgram}
 use Rattle.vt_program.proofs.ProgramLemmas.{unsettled-refused}
 use Rattle.vt_program.proofs.programs.program_model.Goals as goal
 

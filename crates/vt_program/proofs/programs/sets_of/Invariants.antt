@@ -1,6 +1,6 @@
 use Rattle.std.proofs.Common.{◌≡◌, map, take}
-use Rattle.vt_options.specs.Programs.{pair_of}
-use Rattle.vt_program.specs.Programs.{set_pair}
+use Rattle.vt_options.specs.promise.Programs.{pair_of}
+use Rattle.vt_program.specs.promise.Programs.{set_pair}
 use Rattle.vt_program.proofs.programs.sets_of.Given as goal
 
 -- the numbers so far are there

@@ -1,5 +1,5 @@
-use Rattle.vt_model.specs.Simulation.{simulation_of}
-use Rattle.vt_models.specs.Hop.{hop_handlers}
+use Rattle.vt_model.specs.promise.Simulation.{simulation_of}
+use Rattle.vt_models.specs.promise.Hop.{hop_handlers}
 use Rattle.vt_steps.proofs.history.HistoriesTheorem.{histories}
 use Rattle.vt_replays.proofs.hop_runs.hop_histories.Goals as goal
 

@@ -2,7 +2,7 @@ use Rattle.std.proofs.Common.{rules, ◌≡◌, ◌∙◌, ℕ, ◌*◌, List, [
 use Rattle.std.specs.List.{range_with_len}
 use Rattle.std.proofs.lemmas.List.FromFn.{map-range_with_len_more}
 use Rattle.vt_riscv.specs.declared.instruction.Instruction.{Instruction}
-use Rattle.vt_riscv.specs.Codes.{instruction_at}
+use Rattle.vt_riscv.specs.promise.Codes.{instruction_at}
 use Rattle.vt_riscv.proofs.code.instructions.Goals as goal
 
 pub places-preserved : goal.places-preserved

@@ -1,6 +1,6 @@
 use Rattle.std.proofs.Common.{◌≡◌, ℕ, ◌*◌, ◌-◌, ◌≤◌, ◌/◌, length, map}
 use Rattle.std.specs.List.{range_with_len}
-use Rattle.vt_riscv.specs.Codes.{instruction_at}
+use Rattle.vt_riscv.specs.promise.Codes.{instruction_at}
 use Rattle.vt_riscv.proofs.code.instructions.Given as goal
 
 abbrev pub invariant-places : goal.invariant-places

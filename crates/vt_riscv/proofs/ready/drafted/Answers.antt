@@ -3,7 +3,7 @@ use Rattle.std.proofs.lemmas.Option.{slice_get-get_or}
 use Rattle.vt_riscv.specs.declared.instruction.Operation.TheVariants.{Bad}
 use Rattle.vt_riscv.specs.declared.instruction.Instruction.{Instruction}
 use Rattle.vt_riscv.specs.declared.ready.Head.{Head}
-use Rattle.vt_riscv.specs.Readiness.{place_at, ended, step_of, IsReady}
+use Rattle.vt_riscv.specs.inside.Readiness.{place_at, ended, step_of, IsReady}
 use Rattle.vt_riscv.proofs.ReadyLemmas.{one_more, closed, even_on}
 use Rattle.vt_riscv.proofs.ready.drafted.Goals as goal
 

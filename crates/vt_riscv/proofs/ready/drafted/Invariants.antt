@@ -1,5 +1,5 @@
 use Rattle.std.proofs.Common.{◌≡◌, ℕ, ◌+◌, ◌-◌, ◌%◌, ◌<◌, ◌≤◌, [], ◌∷◌, ◌++◌, length, if◌then◌else◌, slice_index}
-use Rattle.vt_riscv.specs.Readiness.{place_at, ended, IsReady}
+use Rattle.vt_riscv.specs.inside.Readiness.{place_at, ended, IsReady}
 use Rattle.vt_riscv.proofs.ready.drafted.Given as goal
 
 abbrev pub invariant-places : goal.invariant-places

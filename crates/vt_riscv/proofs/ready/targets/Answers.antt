@@ -1,5 +1,5 @@
 use Rattle.std.proofs.Common.{rules, ◌≡◌, ℕ, ◌<◌, List, [], ◌∷◌, ◌++◌, length, slice_index, sym, subst, arith}
-use Rattle.vt_riscv.specs.Readiness.{IsAimed}
+use Rattle.vt_riscv.specs.inside.Readiness.{IsAimed}
 use Rattle.vt_riscv.proofs.ReadyLemmas.{one_aimed}
 use Rattle.vt_riscv.proofs.ready.targets.Goals as goal
 

@@ -1,5 +1,5 @@
 use Rattle.std.proofs.Common.{ℕ, ◌-◌, ◌<◌, ◌≤◌, length, slice_index}
-use Rattle.vt_riscv.specs.Readiness.{IsAimed}
+use Rattle.vt_riscv.specs.inside.Readiness.{IsAimed}
 use Rattle.vt_riscv.proofs.ready.targets.Given as goal
 
 abbrev pub invariant-places : goal.invariant-places

@@ -1,7 +1,7 @@
 use Rattle.std.proofs.Common.{◌≡◌, ℕ, ◌∙◌, [], ap, sym, arith}
-use Rattle.vt_model.specs.Sends.{with_requests}
+use Rattle.vt_model.specs.inside.Sends.{with_requests}
 use Rattle.vt_model.proofs.RequestLemmas.{no_requests}
-use Rattle.vt_rumour.specs.Rumour.{told}
+use Rattle.vt_rumour.specs.inside.Rumour.{told}
 use Rattle.vt_rumour.proofs.Rumour.tell.Goals as goal
 
 -- a rumour that isn't passed on is told to nobody

@@ -1,10 +1,11 @@
 use Rattle.std.proofs.Common.{◌≡◌, ℕ, ◌∙◌, List, [], ◌∷◌, ap}
 use Rattle.std.proofs.lemmas.List.{append-nil}
-use Rattle.vt_model.specs.Counts.{one_more}
-use Rattle.vt_model.specs.Sends.{SendRequest, RecordRequest, Outgoing, with_requests}
+use Rattle.vt_model.specs.promise.Counts.{one_more}
+use Rattle.vt_model.specs.promise.Sends.{SendRequest, RecordRequest}
+use Rattle.vt_model.specs.inside.Sends.{Outgoing, with_requests}
 use Rattle.vt_model.proofs.RequestLemmas.{no_requests, recorded_then_both}
 use Rattle.vt_rumour.specs.declared.TheConstants.{HEARD}
-use Rattle.vt_rumour.specs.Rumour.{told}
+use Rattle.vt_rumour.specs.inside.Rumour.{told}
 use Rattle.vt_rumour.proofs.RumourEventModel.forward.Goals as goal
 
 -- a record, and then what is told

@@ -2,12 +2,12 @@ use Rattle.std.proofs.Common.{◌∙◌, ap, length, map, rules, subst, sym}
 use Rattle.std.specs.Fn.{FnReturnsAt}
 use denote.Exit.{unseen}
 use denote.Param.Send.{Quiet-if}
-use Rattle.vt_options.specs.Line.{given_by}
-use Rattle.vt_options.specs.Own.{AreWithin, only, own_app}
-use Rattle.vt_tasks.specs.Models.{any_handlers}
-use Rattle.vt_tasks.specs.Refusals.{TellsRefusalOf}
+use Rattle.vt_options.specs.promise.Line.{given_by}
+use Rattle.vt_options.specs.promise.Own.{AreWithin, only, own_app}
+use Rattle.vt_tasks.specs.promise.Models.{any_handlers}
+use Rattle.vt_tasks.specs.promise.Refusals.{TellsRefusalOf}
 use Rattle.vt_tasks.proofs.ModelsLemmas.{task_given}
-use Rattle.vt_runner.specs.OneModel.{MakesBy}
+use Rattle.vt_runner.specs.promise.OneModel.{MakesBy}
 use Rattle.vt_runner.proofs.OneModelLemmas.{values_are, within_are}
 use Rattle.vt_tasks.proofs.ProgramLemmas.{carried, EndsAs, ends_as, untouched, unrun}
 use Rattle.vt_runner.proofs.one_model.model_program.Given.{Over}

@@ -2,11 +2,13 @@ use Rattle.std.proofs.Common.{◌≡◌, ◌∙◌, ◌++◌, ap, subst, sym}
 use Rattle.std.proofs.lemmas.Result.{on_ok_weaker}
 use Rattle.std.specs.Io.KnownBytes.{Appends}
 use Rattle.vt_key.proofs.ResultLemmas.{if_err}
-use Rattle.vt_model.specs.Simulation.{simulation_of}
-use Rattle.vt_station.specs.Crew.{IsStop, wanted_finals}
-use Rattle.vt_text.specs.Writing.{AppendsBeginning}
-use Rattle.vt_tasks.specs.Printed.{final_lines, printed_text}
-use Rattle.vt_tasks.specs.Runs.{text_below, run_text, StopsInThreads}
+use Rattle.vt_model.specs.promise.Simulation.{simulation_of}
+use Rattle.vt_station.specs.promise.Crew.{IsStop}
+use Rattle.vt_station.specs.inside.Crew.{wanted_finals}
+use Rattle.vt_text.specs.promise.Writing.{AppendsBeginning}
+use Rattle.vt_tasks.specs.promise.Printed.{final_lines, printed_text}
+use Rattle.vt_tasks.specs.promise.Runs.{text_below, run_text}
+use Rattle.vt_tasks.specs.inside.Runs.{StopsInThreads}
 use Rattle.vt_runner.proofs.RunLemmas.{kept-text, part_begun, work_stops, output_begun}
 use Rattle.vt_tasks.proofs.ReplayLemmas.{both}
 use Rattle.vt_runner.proofs.simulation.print_kept.Given.{Over}

@@ -3,10 +3,10 @@ use Rattle.std.specs.Prelude.{◌⊎◌}
 use Rattle.std.specs.Io.KnownBytes.{Appends}
 use Rattle.vt_key.specs.declared.fault.Fault.TheVariants.{Memory, Output}
 use Rattle.vt_key.proofs.ResultLemmas.{if_err}
-use Rattle.vt_model.specs.Simulation.{simulation_of}
-use Rattle.vt_station.specs.Crew.{wanted_finals}
-use Rattle.vt_text.specs.Writing.{AppendsBeginning}
-use Rattle.vt_tasks.specs.Printed.{final_lines}
+use Rattle.vt_model.specs.promise.Simulation.{simulation_of}
+use Rattle.vt_station.specs.inside.Crew.{wanted_finals}
+use Rattle.vt_text.specs.promise.Writing.{AppendsBeginning}
+use Rattle.vt_tasks.specs.promise.Printed.{final_lines}
 use Rattle.vt_tasks.proofs.ReplayLemmas.{both}
 use Rattle.vt_runner.proofs.simulation.print_last.Goals as goal
 

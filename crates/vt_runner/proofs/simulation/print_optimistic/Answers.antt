@@ -2,7 +2,8 @@ use Rattle.std.proofs.Common.{◌∙◌, ℕ, Bool, List, Option, subst, OnOk}
 use Rattle.std.proofs.lemmas.Result.{IfErr-weaker}
 use Rattle.std.specs.Io.KnownBytes.{Appends}
 use Rattle.vt_text.specs.declared.version.Version.{Version}
-use Rattle.vt_tasks.specs.Runs.{text_below, run_text, StopsWork}
+use Rattle.vt_tasks.specs.promise.Runs.{text_below, run_text}
+use Rattle.vt_tasks.specs.inside.Runs.{StopsWork}
 use Rattle.vt_runner.proofs.WorkerLemmas.{text-same, stops-same}
 use Rattle.vt_runner.proofs.simulation.print_optimistic.Goals as goal
 

@@ -2,21 +2,22 @@ use Rattle.std.proofs.Common.{◌≡◌, ◌+◌, ℕ, List, Option, Result, ref
 use Rattle.std.specs.Prelude.{◌⊎◌, OnOk}
 use Rattle.std.specs.Io.KnownBytes.{Appends}
 use Rattle.std.proofs.lemmas.Result.{on_ok_weaker, IfErr-weaker}
-use Rattle.vt_key.specs.Times.{Time}
+use Rattle.vt_key.specs.promise.Times.{Time}
 use Rattle.vt_key.proofs.ResultLemmas.{if_err}
 use Rattle.vt_key.specs.declared.fault.Fault.{Fault}
 use Rattle.vt_key.specs.declared.fault.Fault.TheVariants.{Memory, TurnsSpent, Output}
 use Rattle.vt_model.specs.declared.settings.Config.{Config}
-use Rattle.vt_model.specs.Settings.{end_of}
-use Rattle.vt_model.specs.Simulation.{simulation_of}
+use Rattle.vt_model.specs.promise.Settings.{end_of}
+use Rattle.vt_model.specs.promise.Simulation.{simulation_of}
 use Rattle.vt_station.specs.declared.driver.Wanted.{Wanted}
 use Rattle.vt_station.specs.declared.pieces.Standing.TheVariants.{Whole}
-use Rattle.vt_station.specs.Crew.{AtCrew, IsHandOutRefusal, StandsBy, wanted_finals}
-use Rattle.vt_text.specs.Writing.{AppendsBeginning}
-use Rattle.vt_tasks.specs.Printed.{final_lines}
-use Rattle.vt_tasks.specs.Runs.{text_below, run_text, WritesBelow, StopsInThreads}
+use Rattle.vt_station.specs.inside.Crew.{AtCrew, IsHandOutRefusal, StandsBy, wanted_finals}
+use Rattle.vt_text.specs.promise.Writing.{AppendsBeginning}
+use Rattle.vt_tasks.specs.promise.Printed.{final_lines}
+use Rattle.vt_tasks.specs.promise.Runs.{text_below, run_text, WritesBelow}
+use Rattle.vt_tasks.specs.inside.Runs.{StopsInThreads}
 use Rattle.vt_tasks.proofs.PrintLemmas.{one_run}
-use Rattle.vt_runner.specs.Pieces.{AreWritten, IsDue, wanted_of}
+use Rattle.vt_runner.specs.inside.Pieces.{AreWritten, IsDue, wanted_of}
 use Rattle.vt_runner.proofs.RunLemmas.{written-below, stops-lasting, stops-unread, unread-due, all-written, piece-written, piece-stops, output_begun, last-written, last-stops}
 use Rattle.vt_runner.proofs.simulation.print_pieces.Given.{Over}
 use Rattle.vt_runner.proofs.simulation.print_pieces.Goals.{After-print_last, else-loop-test, then-loop-test+in_default+in_ok-print+in-GoesOn+then-turns-options}

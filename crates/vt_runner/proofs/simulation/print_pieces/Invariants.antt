@@ -1,6 +1,6 @@
 use Rattle.std.proofs.Common.{◌≡◌}
 use Rattle.vt_station.specs.declared.pieces.Standing.TheVariants.{GoesOn}
-use Rattle.vt_runner.specs.Pieces.{AreWritten}
+use Rattle.vt_runner.specs.inside.Pieces.{AreWritten}
 use Rattle.vt_runner.proofs.simulation.print_pieces.Given as goal
 
 abbrev pub invariant-loop : goal.invariant-loop

@@ -1,16 +1,17 @@
 use Rattle.std.proofs.Common.{◌≡◌, ◌++◌, ℕ, List, [], Option, Result, inl, subst, OnOk, IfErr, IsErrAnd}
 use Rattle.std.specs.Io.KnownBytes.{Appends}
-use Rattle.vt_key.specs.Times.{opening_time}
+use Rattle.vt_key.specs.promise.Times.{opening_time}
 use Rattle.vt_key.specs.declared.fault.Fault.{Fault}
 use Rattle.vt_key.specs.declared.fault.Fault.TheVariants.{Memory}
 use Rattle.vt_options.specs.declared.choices.RunSettings.{RunSettings}
 use Rattle.vt_key.proofs.ResultLemmas.{if_err}
 use Rattle.vt_model.specs.declared.settings.Config.{Config}
-use Rattle.vt_model.specs.Histories.{IsLawful}
-use Rattle.vt_model.specs.Simulation.{simulation_of}
+use Rattle.vt_model.specs.promise.Histories.{IsLawful}
+use Rattle.vt_model.specs.promise.Simulation.{simulation_of}
 use Rattle.vt_model.proofs.LawLemmas.{lawful_of}
-use Rattle.vt_tasks.specs.Printed.{final_lines, printed_text}
-use Rattle.vt_tasks.specs.Runs.{text_below, run_text, StopsInThreads, WritesWhole}
+use Rattle.vt_tasks.specs.promise.Printed.{final_lines, printed_text}
+use Rattle.vt_tasks.specs.promise.Runs.{text_below, run_text}
+use Rattle.vt_tasks.specs.inside.Runs.{StopsInThreads, WritesWhole}
 use Rattle.vt_station.proofs.CrewLemmas.{none-at-first}
 use Rattle.vt_runner.proofs.RunLemmas.{none-written, part_begun, stops-lasting, output_begun}
 use Rattle.vt_runner.proofs.simulation.print_work.Given.{Over}

@@ -1,13 +1,13 @@
 use Rattle.std.proofs.Common.{subst, ◌∙◌, ◌++◌, List, [], drop, map, ap, sym}
-use Rattle.vt_model.specs.Settings.{end_of}
-use Rattle.vt_model.specs.Handler.{IsFresh}
+use Rattle.vt_model.specs.promise.Settings.{end_of}
+use Rattle.vt_model.specs.inside.Handler.{IsFresh}
 use Rattle.vt_model.specs.declared.rows.Record.{Record}
 use Rattle.vt_model.specs.declared.rows.Row.{Row}
 use Rattle.vt_model.specs.declared.sending.Sent.{Sent}
-use Rattle.vt_model.specs.Process.{triple_at}
-use Rattle.vt_model.specs.Simulation.{simulation_of}
+use Rattle.vt_model.specs.inside.Process.{triple_at}
+use Rattle.vt_model.specs.promise.Simulation.{simulation_of}
 use Rattle.vt_model.proofs.LawLemmas.{lawful_of}
-use Rattle.vt_seq.specs.Queue.{all_inserted, HaveNewKeys}
+use Rattle.vt_seq.specs.inside.Queue.{all_inserted, HaveNewKeys}
 use Rattle.vt_seq.proofs.InsertedLemmas.{are_new}
 use Rattle.vt_seq.proofs.StepLemmas.{drop-among}
 use Rattle.vt_model.proofs.Sizes.{out_fits}

@@ -1,14 +1,14 @@
 use Rattle.std.proofs.Common.{◌≡◌, List, sym, subst, ◌<◌, ◌∙◌, [], ap, arith, rules}
-use Rattle.vt_stream.specs.Words.{word_of}
-use Rattle.vt_model.specs.Handler.{IsFresh}
-use Rattle.vt_model.specs.Sends.{Outgoing, with_requests}
-use Rattle.vt_model.specs.Simulation.{words_at}
+use Rattle.vt_stream.specs.inside.Words.{word_of}
+use Rattle.vt_model.specs.inside.Handler.{IsFresh}
+use Rattle.vt_model.specs.inside.Sends.{Outgoing, with_requests}
+use Rattle.vt_model.specs.promise.Simulation.{words_at}
 use Rattle.vt_stream.proofs.WordLemmas.{word_below}
 use Rattle.vt_model.specs.declared.sending.Sent.{Sent}
-use Rattle.vt_model.specs.Simulation.{simulation_of}
+use Rattle.vt_model.specs.promise.Simulation.{simulation_of}
 use Rattle.vt_model.proofs.LawLemmas.{lawful_of}
-use Rattle.vt_model.specs.Settings.{end_of}
-use Rattle.vt_seq.specs.Queue.{all_inserted, HaveNewKeys}
+use Rattle.vt_model.specs.promise.Settings.{end_of}
+use Rattle.vt_seq.specs.inside.Queue.{all_inserted, HaveNewKeys}
 use Rattle.vt_seq.proofs.InsertedLemmas.{are_new}
 use Rattle.vt_seq.proofs.StartLemmas.{started_so}
 use Rattle.vt_model.proofs.Sizes.{out_fits, first_out}

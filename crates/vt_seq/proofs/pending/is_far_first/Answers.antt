@@ -1,9 +1,9 @@
 use Rattle.std.proofs.Common.{◌≡◌, ◌<◌, ◌∙◌, true, false, length, sym, subst, rules}
 use Rattle.std.specs.BinaryHeap.{heap_items}
-use Rattle.vt_key.specs.Order.{KeyBefore}
+use Rattle.vt_key.specs.promise.Order.{KeyBefore}
 use Rattle.vt_key.proofs.OrderLemmas.{key-transitive, key_before-true, before-key_before}
 use Rattle.vt_seq.specs.declared.entry.Entry.{Entry}
-use Rattle.vt_seq.specs.Days.{calendar_entries}
+use Rattle.vt_seq.specs.inside.Days.{calendar_entries}
 use Rattle.vt_seq.proofs.HeapLemmas.{top-least, top-same, among-least, none-left, not-before-trans}
 use Rattle.vt_seq.proofs.pending.is_far_first.Goals as goal
 

@@ -3,9 +3,9 @@ use Rattle.std.specs.BinaryHeap.{heap_items, heap_len, heap_capacity}
 use Rattle.std.proofs.lemmas.List.{drop_more, drop_all}
 use Rattle.vt_model.specs.declared.sending.Sent.{Sent}
 use Rattle.vt_seq.specs.declared.entry.Entry.{Entry}
-use Rattle.vt_seq.specs.Queue.{all_inserted, HaveNewKeys}
-use Rattle.vt_seq.specs.Entries.{in_order}
-use Rattle.vt_seq.specs.Days.{calendar_entries}
+use Rattle.vt_seq.specs.inside.Queue.{all_inserted, HaveNewKeys}
+use Rattle.vt_seq.specs.inside.Entries.{in_order}
+use Rattle.vt_seq.specs.inside.Days.{calendar_entries}
 use Rattle.vt_seq.proofs.HeapLemmas.{IsPutAmong, near-put, far-put, near-reordered, refused-kept, done-put}
 use Rattle.vt_seq.proofs.pending.put_all.Goals.{then-is_err+in-Ok, else-is_err}
 use Rattle.vt_seq.proofs.pending.put_all.Goals as goal

@@ -1,8 +1,8 @@
 use Rattle.std.proofs.Common.{◌≡◌, ◌+◌, ◌≤◌, ◌++◌, drop, length}
 use Rattle.std.specs.BinaryHeap.{heap_items, heap_len, heap_capacity}
-use Rattle.vt_seq.specs.Queue.{all_inserted, HaveNewKeys}
-use Rattle.vt_seq.specs.Entries.{in_order, IsQueue}
-use Rattle.vt_seq.specs.Days.{calendar_entries}
+use Rattle.vt_seq.specs.inside.Queue.{all_inserted, HaveNewKeys}
+use Rattle.vt_seq.specs.inside.Entries.{in_order, IsQueue}
+use Rattle.vt_seq.specs.inside.Days.{calendar_entries}
 use Rattle.vt_seq.proofs.pending.put_all.Given as goal
 
 abbrev pub invariant-loop-event : goal.invariant-loop-event

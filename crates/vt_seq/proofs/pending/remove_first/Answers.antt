@@ -1,10 +1,10 @@
 use Rattle.std.proofs.Common.{◌≡◌, ◌∙◌, ◌++◌, List, length, drop, slice_get, Some, refl, sym, ap, subst, arith}
 use Rattle.std.specs.BinaryHeap.{heap_items}
-use Rattle.vt_key.specs.Times.{ticks_of}
+use Rattle.vt_key.specs.promise.Times.{ticks_of}
 use Rattle.vt_model.specs.declared.sending.Sent.{Sent}
 use Rattle.vt_seq.specs.declared.entry.Entry.{Entry}
-use Rattle.vt_seq.specs.Entries.{in_order, IsLeastEntry, IsQueue}
-use Rattle.vt_seq.specs.Days.{day_of, calendar_entries}
+use Rattle.vt_seq.specs.inside.Entries.{in_order, IsLeastEntry, IsQueue}
+use Rattle.vt_seq.specs.inside.Days.{day_of, calendar_entries}
 use Rattle.vt_seq.proofs.HeapLemmas.{top-least, least-popped, least-append, in-far, first-event, near-removed, far-removed}
 use Rattle.vt_seq.proofs.pending.remove_first.Given.{Over}
 use Rattle.vt_seq.proofs.pending.remove_first.Goals as goal

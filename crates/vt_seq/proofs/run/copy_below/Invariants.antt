@@ -1,6 +1,6 @@
 use Rattle.std.proofs.Common.{◌≡◌, filter, take}
-use Rattle.vt_key.specs.Times.{time_before}
-use Rattle.vt_model.specs.Rows.{record_time}
+use Rattle.vt_key.specs.promise.Times.{time_before}
+use Rattle.vt_model.specs.promise.Rows.{record_time}
 use Rattle.vt_seq.proofs.run.copy_below.Given as goal
 
 abbrev pub invariant-loop-record : goal.invariant-loop-record

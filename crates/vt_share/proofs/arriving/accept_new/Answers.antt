@@ -1,13 +1,13 @@
 use Rattle.std.proofs.Common.{◌≡◌, ◌∙◌, suc, ◌+◌, ◌≤◌, List, ◌∷◌, [], drop, map, length, true, IfSome, refl, sym, ap, subst, arith}
-use Rattle.vt_key.specs.Queues.{letter_rank}
+use Rattle.vt_key.specs.promise.Queues.{letter_rank}
 use Rattle.vt_key.specs.declared.letter.Letter.{Letter}
 use Rattle.vt_key.specs.declared.letter.Mail.{Mail}
 use Rattle.vt_key.specs.declared.letter.Sign.TheVariants.{Plus}
 use Rattle.vt_steps.proofs.lists.Places.{get-within}
-use Rattle.vt_pool.specs.Inside.{AreSettled, IsHeard}
-use Rattle.vt_pool.specs.Pool.{MayCome, holds_stamp, with_letter}
-use Rattle.vt_pool.specs.Share.{HeldPool, PoolLeadsTo}
-use Rattle.vt_share.specs.Calls.{AcceptsFirst}
+use Rattle.vt_pool.specs.inside.Inside.{AreSettled, IsHeard}
+use Rattle.vt_pool.specs.inside.Pool.{MayCome, holds_stamp, with_letter}
+use Rattle.vt_pool.specs.inside.Share.{HeldPool, PoolLeadsTo}
+use Rattle.vt_share.specs.inside.Calls.{AcceptsFirst}
 use Rattle.vt_share.proofs.AcceptLemmas.{drop-at, accepts-asked, accepts-next, accepts-nothing, next-letter, next-may_come, past-end}
 use Rattle.vt_share.proofs.arriving.accept_new.Goals as goal
 

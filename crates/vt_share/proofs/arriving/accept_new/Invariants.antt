@@ -1,6 +1,6 @@
 use Rattle.std.proofs.Common.{◌≡◌, ◌≤◌, length, map, drop}
-use Rattle.vt_pool.specs.Inside.{AreSettled}
-use Rattle.vt_share.specs.Calls.{AcceptsFirst}
+use Rattle.vt_pool.specs.inside.Inside.{AreSettled}
+use Rattle.vt_share.specs.inside.Calls.{AcceptsFirst}
 use Rattle.vt_share.proofs.arriving.accept_new.Given as goal
 
 abbrev pub invariant-loop-accepted : goal.invariant-loop-accepted

@@ -1,7 +1,7 @@
 use Rattle.std.proofs.Common.{[], ◌∷◌, ◌++◌, sym, ◌∙◌}
-use Rattle.vt_model.specs.Simulation.{simulation_of}
+use Rattle.vt_model.specs.promise.Simulation.{simulation_of}
 use Rattle.vt_model.proofs.RunLemmas.{map-next}
-use Rattle.vt_steps.specs.Finals.{final_value}
+use Rattle.vt_steps.specs.inside.Finals.{final_value}
 use Rattle.vt_station.proofs.crew.all_finals.Goals as goal
 
 pub loop-lp-preserved : goal.loop-lp-preserved

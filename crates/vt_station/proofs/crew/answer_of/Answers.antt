@@ -1,14 +1,15 @@
 use Rattle.std.proofs.Common.{rules, ◌≡◌, sym, ◌∙◌, ap, subst, inr, List, length, Some, slice_get}
 use Rattle.std.proofs.lemmas.Option.{slice_get_within, get_or_from_slice_get}
 use Rattle.std.specs.Prelude.{◌<◌, IfOk, IfErr}
-use Rattle.vt_key.specs.Times.{Time, opening_time}
+use Rattle.vt_key.specs.promise.Times.{Time, opening_time}
 use Rattle.vt_model.specs.declared.settings.Config.{Config}
-use Rattle.vt_model.specs.Simulation.{simulation_of}
-use Rattle.vt_model.specs.Sequential.{seq_records}
-use Rattle.vt_model.specs.Settings.{end_of}
+use Rattle.vt_model.specs.promise.Simulation.{simulation_of}
+use Rattle.vt_model.specs.promise.Sequential.{seq_records}
+use Rattle.vt_model.specs.promise.Settings.{end_of}
 use Rattle.vt_station.specs.declared.driver.Outcome.TheVariants.{Closed}
 use Rattle.vt_key.specs.declared.fault.Fault.TheVariants.{Busy}
-use Rattle.vt_station.specs.Crew.{AtJob, IsStop, IsToldBy, NoneClosed, first_fault}
+use Rattle.vt_station.specs.promise.Crew.{IsStop}
+use Rattle.vt_station.specs.inside.Crew.{AtJob, IsToldBy, NoneClosed, first_fault}
 use Rattle.vt_station.proofs.CrewLemmas.{none-at-first, stop-records, stop-fault, stop-told}
 use Rattle.vt_station.proofs.crew.answer_of.Given.{Over}
 use Rattle.vt_station.proofs.crew.answer_of.Goals as goal

@@ -2,7 +2,7 @@ use Rattle.std.proofs.Common.{◌≡◌, refl, sym, ◌∙◌, ap, length, arith
 use Rattle.std.specs.List.{slice_get}
 use Rattle.std.proofs.lemmas.Bool.{ltb-true, cases_lt}
 use Rattle.std.proofs.lemmas.Option.{slice_get_read, get_or_from_slice_get}
-use Rattle.vt_station.specs.Crew.{AtJob}
+use Rattle.vt_station.specs.inside.Crew.{AtJob}
 use Rattle.vt_station.proofs.crew.closer_of.Goals as goal
 
 pub returns-then-has_closed_book-clause-some : goal.returns-then-has_closed_book-clause-some

@@ -1,5 +1,5 @@
 use Rattle.std.proofs.Common.{◌≡◌, drop}
-use Rattle.vt_station.specs.Crew.{first_fault}
+use Rattle.vt_station.specs.inside.Crew.{first_fault}
 use Rattle.vt_station.proofs.crew.fault_of.Given as goal
 
 abbrev pub invariant-loop-job : goal.invariant-loop-job

@@ -2,9 +2,9 @@ use Rattle.std.proofs.Common.{◌≡◌, ◌+◌, ◌*◌, ◌/◌, ◌<◌, len
 use Rattle.std.specs.Prelude.{IfSome}
 use Rattle.std.proofs.lemmas.Bool.{ltb-true}
 use Rattle.std.proofs.Math.Nat.{div-add-mod'}
-use Rattle.vt_model.specs.Simulation.{simulation_of}
-use Rattle.vt_steps.specs.Finals.{final_value}
-use Rattle.vt_station.specs.Crew.{AtJob}
+use Rattle.vt_model.specs.promise.Simulation.{simulation_of}
+use Rattle.vt_steps.specs.inside.Finals.{final_value}
+use Rattle.vt_station.specs.inside.Crew.{AtJob}
 use Rattle.vt_station.proofs.crew.final_of.Goals as goal
 
 pub returns : goal.returns

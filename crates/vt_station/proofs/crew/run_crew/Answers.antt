@@ -1,10 +1,11 @@
 use Rattle.std.proofs.Common.{◌≡◌, List, sym, ◌∙◌, subst, ap, inl, length, take, drop, ◌++◌}
-use Rattle.vt_key.specs.Times.{Time, opening_time}
+use Rattle.vt_key.specs.promise.Times.{Time, opening_time}
 use Rattle.vt_key.specs.declared.fault.Fault.TheVariants.{Memory}
-use Rattle.vt_model.specs.Simulation.{simulation_of}
-use Rattle.vt_model.specs.Sequential.{seq_records}
-use Rattle.vt_model.specs.Settings.{end_of}
-use Rattle.vt_station.specs.Crew.{AtJob, AllAt, AreInOrder, IsStop}
+use Rattle.vt_model.specs.promise.Simulation.{simulation_of}
+use Rattle.vt_model.specs.promise.Sequential.{seq_records}
+use Rattle.vt_model.specs.promise.Settings.{end_of}
+use Rattle.vt_station.specs.promise.Crew.{IsStop}
+use Rattle.vt_station.specs.inside.Crew.{AtJob, AllAt, AreInOrder}
 use Rattle.vt_station.proofs.CrewLemmas.{none-at-first, finished-records, finished-finals, finish-stopped, whole-again}
 use Rattle.vt_station.proofs.crew.run_crew.Given.{Over}
 use Rattle.vt_station.proofs.crew.run_crew.Goals.{After-work_all}

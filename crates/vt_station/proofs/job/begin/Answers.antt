@@ -1,7 +1,7 @@
 use Rattle.std.proofs.Common.{subst}
-use Rattle.vt_model.specs.Simulation.{simulation_of}
+use Rattle.vt_model.specs.promise.Simulation.{simulation_of}
 use Rattle.vt_places.proofs.WorkLemmas.{opens-at-work}
-use Rattle.vt_station.specs.Crew.{StandsThere}
+use Rattle.vt_station.specs.inside.Crew.{StandsThere}
 use Rattle.vt_station.proofs.job.begin.Goals as goal
 
 pub new-requires-in-Ok-clause-ready : goal.new-requires-in-Ok-clause-ready

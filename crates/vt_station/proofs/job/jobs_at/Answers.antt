@@ -1,7 +1,7 @@
 use Rattle.std.proofs.Common.{◌≡◌, ◌+◌, List, [], ◌∷◌, length, sym, ◌∙◌, ap, subst, arith, length-append}
-use Rattle.vt_model.specs.Simulation.{simulation_of}
-use Rattle.vt_places.specs.Making.{AreNew}
-use Rattle.vt_station.specs.Crew.{AtJob, AllAt, AreInOrder, AreUnbegun}
+use Rattle.vt_model.specs.promise.Simulation.{simulation_of}
+use Rattle.vt_places.specs.inside.Making.{AreNew}
+use Rattle.vt_station.specs.inside.Crew.{AtJob, AllAt, AreInOrder, AreUnbegun}
 use Rattle.vt_station.proofs.JobLemmas.{next-new, more-in-order, more-at, more-unbegun}
 use Rattle.vt_station.proofs.job.jobs_at.Goals as goal
 

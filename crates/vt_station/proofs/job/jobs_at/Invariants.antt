@@ -1,7 +1,7 @@
 use Rattle.std.proofs.Common.{◌≡◌, length, ◌+◌}
-use Rattle.vt_model.specs.Simulation.{simulation_of}
-use Rattle.vt_places.specs.Making.{AreNew}
-use Rattle.vt_station.specs.Crew.{AllAt, AreInOrder, AreUnbegun}
+use Rattle.vt_model.specs.promise.Simulation.{simulation_of}
+use Rattle.vt_places.specs.inside.Making.{AreNew}
+use Rattle.vt_station.specs.inside.Crew.{AllAt, AreInOrder, AreUnbegun}
 use Rattle.vt_station.proofs.job.jobs_at.Given as goal
 
 abbrev pub invariant-loop-worker : goal.invariant-loop-worker

@@ -1,5 +1,5 @@
 use Rattle.vt_text.proofs.TextLemmas.{held_stops, on_err}
-use Rattle.vt_step_text.specs.Replies.{reply_text}
+use Rattle.vt_step_text.specs.promise.Replies.{reply_text}
 use Rattle.vt_step_text.proofs.printing.put_reply.Goals as goal
 
 pub returns-in_err-make_room-clause-err : goal.returns-in_err-make_room-clause-err

@@ -1,6 +1,6 @@
 use Rattle.std.proofs.lemmas.Result.{on_ok_weaker, on_err_weaker}
-use Rattle.vt_text.specs.Records.{records_text}
-use Rattle.vt_step_text.specs.Replies.{shown_text, state_text}
+use Rattle.vt_text.specs.promise.Records.{records_text}
+use Rattle.vt_step_text.specs.promise.Replies.{shown_text, state_text}
 use Rattle.vt_key.proofs.ResultLemmas.{on_refused}
 use Rattle.vt_text.proofs.TextLemmas.{on_err, held_stops}
 use Rattle.vt_step_text.proofs.PrintLemmas.{both_put, second_stops}

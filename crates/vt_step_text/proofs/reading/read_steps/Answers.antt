@@ -1,5 +1,5 @@
 use Rattle.std.proofs.Common.{true, [], ◌∷◌, ◌++◌, ◌≡◌, ◌∙◌, sym, length, arith, rules, ◌<◌, false}
-use Rattle.vt_step_text.specs.StepText.{is_passed_over, numbered}
+use Rattle.vt_step_text.specs.promise.StepText.{is_passed_over, numbered}
 use Rattle.vt_step_text.proofs.StepTextLemmas.{passed, read, bad, ended, unended}
 use Rattle.vt_step_text.proofs.reading.read_steps.Goals as goal
 use Rattle.vt_step_text.proofs.reading.read_steps.Goals.{then-not-is_passed_over+in-Some-step_of_line+in-Ok, else-not-is_passed_over}

@@ -1,5 +1,5 @@
 use Rattle.std.proofs.Common.{◌≡◌, ◌+◌, ◌≤◌, length}
-use Rattle.vt_step_text.specs.StepText.{text_lines, steps_from, steps_of}
+use Rattle.vt_step_text.specs.promise.StepText.{text_lines, steps_from, steps_of}
 use Rattle.vt_step_text.proofs.StepTextLemmas.{with_front}
 use Rattle.vt_step_text.proofs.reading.read_steps.Given as goal
 

@@ -1,4 +1,4 @@
-use Rattle.vt_steps.specs.Next.{reached}
+use Rattle.vt_steps.specs.promise.Next.{reached}
 use Rattle.vt_steps.proofs.steps.Shape.{reached-shape, shaped-has_each}
 use Rattle.vt_steps.proofs.histories.each_process_is_there.Goals as goal
 

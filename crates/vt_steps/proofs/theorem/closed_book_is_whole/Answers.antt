@@ -1,4 +1,4 @@
-use Rattle.vt_steps.specs.Next.{reached}
+use Rattle.vt_steps.specs.promise.Next.{reached}
 use Rattle.vt_steps.proofs.book.ReachedBooks.{closed-finals, closed-takes_nothing, closed-whole}
 use Rattle.vt_steps.proofs.theorem.closed_book_is_whole.Goals as goal
 

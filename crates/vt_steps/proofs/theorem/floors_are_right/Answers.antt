@@ -1,4 +1,4 @@
-use Rattle.vt_steps.specs.Next.{reached}
+use Rattle.vt_steps.specs.promise.Next.{reached}
 use Rattle.vt_steps.proofs.book.ReachedBooks.{reached-accounted, reached-falls}
 use Rattle.vt_steps.proofs.book.Records.{floors-right}
 use Rattle.vt_steps.proofs.theorem.floors_are_right.Goals as goal

@@ -1,4 +1,4 @@
-use Rattle.vt_steps.specs.Next.{reached}
+use Rattle.vt_steps.specs.promise.Next.{reached}
 use Rattle.vt_steps.proofs.book.EachOnce.{book-once}
 use Rattle.vt_steps.proofs.book.ReachedBooks.{reached-accounted}
 use Rattle.vt_steps.proofs.book.Records.{records-right}

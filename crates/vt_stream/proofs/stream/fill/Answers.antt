@@ -1,6 +1,6 @@
 use Rattle.std.proofs.Common.{◌≡◌, ◌≢◌, ℕ, ◌+◌, ◌%◌, ◌^◌, ◌<◌, ◌∙◌, length, sym, ap, arith, get_or-set_other, get_or-set_same, below_more}
 use Rattle.rand_chacha.specs.ChaCha.{ChaCha, next_word}
-use Rattle.vt_stream.specs.Words.{seed_key, word}
+use Rattle.vt_stream.specs.promise.Words.{seed_key, word}
 use Rattle.vt_stream.proofs.WordLemmas.{word-here}
 use Rattle.vt_stream.proofs.stream.fill.Goals as goal
 

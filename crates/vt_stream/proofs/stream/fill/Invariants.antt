@@ -1,5 +1,5 @@
 use Rattle.std.proofs.Common.{◌≡◌, ℕ, ◌+◌, ◌<◌, slice_index}
-use Rattle.vt_stream.specs.Words.{seed_key, word}
+use Rattle.vt_stream.specs.promise.Words.{seed_key, word}
 use Rattle.vt_stream.proofs.stream.fill.Given as goal
 
 abbrev pub invariant-words : goal.invariant-words

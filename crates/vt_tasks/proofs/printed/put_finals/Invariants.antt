@@ -1,6 +1,6 @@
 use Rattle.std.proofs.Common.{◌++◌, take}
-use Rattle.vt_text.specs.Writing.{AppendsAllButHeld}
-use Rattle.vt_tasks.specs.Printed.{final_lines}
+use Rattle.vt_text.specs.inside.Writing.{AppendsAllButHeld}
+use Rattle.vt_tasks.specs.promise.Printed.{final_lines}
 use Rattle.vt_tasks.proofs.printed.put_finals.Given as goal
 
 -- of what was gathered and the lines of the values so far, some was written and the rest is held

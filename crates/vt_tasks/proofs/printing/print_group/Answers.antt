@@ -3,7 +3,7 @@ use Rattle.std.proofs.lemmas.Result.{on_err_weaker}
 use Rattle.vt_model.specs.declared.rows.Record.{Record}
 use Rattle.vt_text.proofs.TextLemmas.{on_err, flush_fails}
 use Rattle.vt_tasks.specs.declared.printing.Share.{Share}
-use Rattle.vt_tasks.specs.Shares.{HasLines}
+use Rattle.vt_tasks.specs.inside.Shares.{HasLines}
 use Rattle.vt_tasks.proofs.ShareLemmas.{parted, share_written, share_stops}
 use Rattle.vt_tasks.proofs.printing.print_group.Goals as goal
 

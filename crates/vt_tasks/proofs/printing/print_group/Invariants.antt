@@ -1,6 +1,6 @@
 use Rattle.std.proofs.Common.{◌≡◌, ◌*◌, drop}
-use Rattle.vt_text.specs.Records.{record_lines}
-use Rattle.vt_text.specs.Writing.{AppendsAllButHeld}
+use Rattle.vt_text.specs.promise.Records.{record_lines}
+use Rattle.vt_text.specs.inside.Writing.{AppendsAllButHeld}
 use Rattle.vt_tasks.proofs.printing.print_group.Given as goal
 
 -- the lines of the shares so far were written, and those of the rest were not

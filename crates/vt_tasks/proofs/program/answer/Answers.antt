@@ -1,8 +1,8 @@
 use Rattle.std.proofs.Common.{inr, map, refl, subst}
 use Rattle.vt_options.specs.declared.asking.Request.{Request}
-use Rattle.vt_options.specs.Asked.{IsAsked}
-use Rattle.vt_options.specs.Own.{models_of}
-use Rattle.vt_tasks.specs.Programs.{CallAnswers, IsTaskAnswered}
+use Rattle.vt_options.specs.inside.Asked.{IsAsked}
+use Rattle.vt_options.specs.inside.Own.{models_of}
+use Rattle.vt_tasks.specs.inside.Programs.{CallAnswers, IsTaskAnswered}
 use Rattle.vt_tasks.proofs.ModelsLemmas.{task_of}
 use Rattle.vt_tasks.proofs.ProgramLemmas.{answer_done, answer_ends}
 use Rattle.vt_tasks.proofs.program.answer.Given.{Over}

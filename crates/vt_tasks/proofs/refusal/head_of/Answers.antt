@@ -1,7 +1,7 @@
 use Rattle.std.proofs.Common.{◌≡◌, ◌∙◌, List, ℕ, ap, sym}
 use Rattle.std.specs.Fmt.{digits}
 use denote.Ref.{Bor}
-use Rattle.vt_tasks.specs.Refusals.{head_text}
+use Rattle.vt_tasks.specs.promise.Refusals.{head_text}
 use Rattle.vt_tasks.proofs.refusal.head_of.Goals.{in-Memory, in-NotLawful, in-Busy, in-Closed, in-Exhausted, in-TurnsSpent, in-BadOption, in-BadStep, in-Output}
 use Rattle.vt_tasks.proofs.refusal.head_of.Goals as goal
 

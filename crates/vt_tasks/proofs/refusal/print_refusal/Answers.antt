@@ -1,7 +1,7 @@
 use Rattle.std.proofs.Common.{◌≡◌, ◌++◌, ◌∷◌, [], List, ℕ, ap, ap₂}
 use Rattle.std.proofs.lemmas.Result.{on_ok_weaker, on_err_weaker}
 use Rattle.vt_text.proofs.TextLemmas.{begun, on_err}
-use Rattle.vt_tasks.specs.Refusals.{head_text, carried_text, refusal_text}
+use Rattle.vt_tasks.specs.promise.Refusals.{head_text, carried_text, refusal_text}
 use Rattle.vt_tasks.proofs.RefusalLemmas.{name_stops, head_stops, carried_stops, end_stops, line_written, line_stops}
 use Rattle.vt_tasks.proofs.refusal.print_refusal.Goals as goal
 

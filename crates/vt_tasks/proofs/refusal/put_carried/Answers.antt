@@ -1,8 +1,8 @@
 use Rattle.std.proofs.Common.{rules, ◌≡◌, ◌++◌, List, ℕ, subst}
 use Rattle.std.proofs.lemmas.Result.{on_err_weaker}
-use Rattle.vt_text.specs.Writing.{AppendsBeginning}
+use Rattle.vt_text.specs.promise.Writing.{AppendsBeginning}
 use Rattle.vt_text.proofs.TextLemmas.{begun}
-use Rattle.vt_tasks.specs.Refusals.{carried_text}
+use Rattle.vt_tasks.specs.promise.Refusals.{carried_text}
 use Rattle.vt_tasks.proofs.refusal.put_carried.Goals as goal
 
 pub returns-in-BadOption-clause-err : goal.returns-in-BadOption-clause-err

@@ -2,13 +2,14 @@ use Rattle.std.proofs.Common.{◌∙◌, ◌++◌, List, ℕ, ap, subst}
 use Rattle.std.proofs.lemmas.Result.{on_ok_weaker}
 use Rattle.std.specs.Io.KnownBytes.{Appends}
 use Rattle.vt_model.proofs.LawLemmas.{lawful_of}
-use Rattle.vt_model.specs.Simulation.{Simulation, simulation_of}
-use Rattle.vt_steps.specs.World.{World}
+use Rattle.vt_model.specs.promise.Simulation.{Simulation, simulation_of}
+use Rattle.vt_steps.specs.promise.World.{World}
 use Rattle.vt_key.proofs.ResultLemmas.{if_err}
-use Rattle.vt_text.specs.Writing.{AppendsBeginning}
-use Rattle.vt_world.specs.Answers.{PassesAtStart}
-use Rattle.vt_tasks.specs.Replays.{IsReplayText, IsRepliesText, StopsReplay}
-use Rattle.vt_tasks.specs.Replying.{PutsReplies, StopsReplies, shown_of}
+use Rattle.vt_text.specs.promise.Writing.{AppendsBeginning}
+use Rattle.vt_world.specs.promise.Answers.{PassesAtStart}
+use Rattle.vt_tasks.specs.promise.Replays.{IsReplayText, IsRepliesText}
+use Rattle.vt_tasks.specs.inside.Replays.{StopsReplay}
+use Rattle.vt_tasks.specs.inside.Replying.{PutsReplies, StopsReplies, shown_of}
 use Rattle.vt_tasks.proofs.ReplayLemmas.{both, output_stops, lines_written, replay_begun, replay_written, replies_begun, show_stops}
 use Rattle.vt_tasks.proofs.replaying.print_replay.Goals as goal
 

@@ -1,5 +1,5 @@
 use Rattle.std.proofs.Common.{◌∙◌, refl}
-use Rattle.vt_model.specs.Simulation.{simulation_of}
+use Rattle.vt_model.specs.promise.Simulation.{simulation_of}
 use Rattle.vt_text.proofs.TextLemmas.{begun, on_err}
 use Rattle.vt_tasks.proofs.ReplyLemmas.{step_there, puts_none, puts_more, puts_stop}
 use Rattle.vt_tasks.proofs.replaying.put_replies.Goals as goal

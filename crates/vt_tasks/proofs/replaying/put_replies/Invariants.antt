@@ -1,6 +1,6 @@
 use Rattle.std.proofs.Common.{◌≡◌, take}
-use Rattle.vt_model.specs.Simulation.{simulation_of}
-use Rattle.vt_tasks.specs.Replying.{PutsReplies}
+use Rattle.vt_model.specs.promise.Simulation.{simulation_of}
+use Rattle.vt_tasks.specs.inside.Replying.{PutsReplies}
 use Rattle.vt_tasks.proofs.replaying.put_replies.Given as goal
 
 -- the steps so far were answered, and the lines of the answers were put behind what was held

@@ -1,12 +1,12 @@
 use Rattle.std.proofs.Common.{◌≡◌, ◌∙◌, ap}
 use Rattle.std.proofs.lemmas.Result.{on_err_weaker}
-use Rattle.vt_key.specs.Times.{Time}
-use Rattle.vt_model.specs.Settings.{end_of}
-use Rattle.vt_model.specs.Simulation.{simulation_of}
-use Rattle.vt_steps.specs.World.{book_floor, least}
-use Rattle.vt_step_text.specs.Replies.{state_text}
+use Rattle.vt_key.specs.promise.Times.{Time}
+use Rattle.vt_model.specs.promise.Settings.{end_of}
+use Rattle.vt_model.specs.promise.Simulation.{simulation_of}
+use Rattle.vt_steps.specs.promise.World.{book_floor, least}
+use Rattle.vt_step_text.specs.promise.Replies.{state_text}
 use Rattle.vt_text.proofs.TextLemmas.{begun, on_err, of_longer}
-use Rattle.vt_tasks.specs.Replying.{shown_of}
+use Rattle.vt_tasks.specs.inside.Replying.{shown_of}
 use Rattle.vt_tasks.proofs.ReplayLemmas.{state_some, gathered_alone, shown_in_part, shown_flushed}
 use Rattle.vt_tasks.proofs.replaying.show.Given.{Over}
 use Rattle.vt_tasks.proofs.replaying.show.Goals.{After-put_state}

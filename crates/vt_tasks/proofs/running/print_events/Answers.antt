@@ -2,12 +2,14 @@ use Rattle.std.proofs.Common.{rules, arith, refl, ◌∙◌, ◌++◌, ap, subst
 use Rattle.std.proofs.lemmas.List.{nil_from_length}
 use Rattle.std.proofs.lemmas.Result.{on_ok_weaker}
 use Rattle.vt_model.proofs.Sizes.{out_fits, first_out}
-use Rattle.vt_model.specs.Settings.{end_of}
+use Rattle.vt_model.specs.promise.Settings.{end_of}
 use Rattle.vt_key.proofs.ResultLemmas.{if_err}
-use Rattle.vt_text.specs.Writing.{AppendsAllButHeld, AppendsBeginning}
+use Rattle.vt_text.specs.promise.Writing.{AppendsBeginning}
+use Rattle.vt_text.specs.inside.Writing.{AppendsAllButHeld}
 use Rattle.vt_text.proofs.TextLemmas.{begun}
-use Rattle.vt_tasks.specs.Printed.{final_lines}
-use Rattle.vt_tasks.specs.Runs.{run_text, text_below, StopsRun}
+use Rattle.vt_tasks.specs.promise.Printed.{final_lines}
+use Rattle.vt_tasks.specs.promise.Runs.{run_text, text_below}
+use Rattle.vt_tasks.specs.inside.Runs.{StopsRun}
 use Rattle.vt_tasks.proofs.PrintLemmas.{one_run, opened, first_stops, stepped, step_stops, emptied, put_stops, last_put, finals_refused, finals_put, finals_stop, all_written, last_stops}
 use Rattle.vt_tasks.proofs.ReplayLemmas.{both}
 use Rattle.vt_tasks.proofs.running.print_events.Given.{Over}

@@ -1,6 +1,6 @@
 use Rattle.std.proofs.Common.{◌≡◌}
-use Rattle.vt_model.specs.Simulation.{simulation_of}
-use Rattle.vt_model.specs.Sequential.{weight}
+use Rattle.vt_model.specs.promise.Simulation.{simulation_of}
+use Rattle.vt_model.specs.promise.Sequential.{weight}
 use Rattle.vt_tasks.proofs.PrintLemmas.{IsPrinting}
 use Rattle.vt_tasks.proofs.running.print_events.Given as goal
 

@@ -1,6 +1,6 @@
 use Rattle.std.proofs.Common.{◌≡◌, ◌+◌, ◌-◌, ap, sym, arith}
 use Rattle.std.proofs.lemmas.List.{drop-set}
-use Rattle.vt_text.specs.Records.{record_text}
+use Rattle.vt_text.specs.promise.Records.{record_text}
 use Rattle.vt_text.proofs.buffer.put_record.Goals as goal
 
 pub returns-in-One-clause-written : goal.returns-in-One-clause-written

@@ -2,7 +2,7 @@ use Rattle.std.proofs.Common.{◌≡◌, ◌<◌, ◌∙◌, Some, sym, ap, arit
 use Rattle.std.proofs.lemmas.List.{take_all}
 use Rattle.std.specs.Char.{is_ascii_digit}
 use Rattle.std.specs.List.{list_all}
-use Rattle.vt_text.specs.Numbers.{decimal_value}
+use Rattle.vt_text.specs.promise.Numbers.{decimal_value}
 use Rattle.vt_text.proofs.NumberLemmas.{first_digits, too_large, a_number, not_empty}
 use Rattle.vt_text.proofs.number.read_number.Goals as goal
 

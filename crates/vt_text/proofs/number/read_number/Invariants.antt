@@ -1,7 +1,7 @@
 use Rattle.std.proofs.Common.{◌≡◌, ◌<◌, ◌^◌, true, take}
 use Rattle.std.specs.Char.{is_ascii_digit}
 use Rattle.std.specs.List.{list_all}
-use Rattle.vt_text.specs.Numbers.{decimal_value}
+use Rattle.vt_text.specs.promise.Numbers.{decimal_value}
 use Rattle.vt_text.proofs.number.read_number.Given as goal
 
 -- the number of the digits so far

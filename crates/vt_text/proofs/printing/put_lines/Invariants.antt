@@ -1,6 +1,6 @@
 use Rattle.std.proofs.Common.{◌++◌, take}
-use Rattle.vt_text.specs.Records.{record_lines}
-use Rattle.vt_text.specs.Writing.{AppendsAllButHeld}
+use Rattle.vt_text.specs.promise.Records.{record_lines}
+use Rattle.vt_text.specs.inside.Writing.{AppendsAllButHeld}
 use Rattle.vt_text.proofs.printing.put_lines.Given as goal
 
 -- of what was gathered and the lines of the records so far, some was written and the rest is held

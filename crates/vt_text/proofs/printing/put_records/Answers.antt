@@ -1,5 +1,5 @@
 use Rattle.std.proofs.lemmas.Result.{on_ok_weaker, on_err_weaker}
-use Rattle.vt_text.specs.Records.{first_line, record_lines}
+use Rattle.vt_text.specs.promise.Records.{first_line, record_lines}
 use Rattle.vt_text.proofs.TextLemmas.{first_stops, on_err, then_put, then_stops}
 use Rattle.vt_text.proofs.printing.put_records.Goals as goal
 

@@ -3,7 +3,7 @@ use Rattle.std.proofs.Math.Seq.{take-add}
 use Rattle.std.proofs.lemmas.List.{take_all, take_rest}
 use Rattle.std.specs.Io.KnownBytes.{Appends}
 use Rattle.std.proofs.KnownBytes.{Appends-trans, Appends-kept}
-use Rattle.vt_text.specs.Writing.{AppendsBeginning}
+use Rattle.vt_text.specs.promise.Writing.{AppendsBeginning}
 use Rattle.vt_text.proofs.writing.write_bytes.Goals as goal
 
 pub loop-done-preserved : goal.loop-done-preserved

@@ -1,5 +1,5 @@
 use Rattle.std.proofs.Common.{◌≡◌, ℕ, false, sym, subst, ap, ◌∙◌, arith}
-use Rattle.vt_tournament.specs.Contest.{Contestant, contestant, is_ahead, node_of}
+use Rattle.vt_tournament.specs.inside.Contest.{Contestant, contestant, is_ahead, node_of}
 use Rattle.vt_tournament.proofs.AheadLemmas.{not_behind-self, winner-first}
 use Rattle.vt_tournament.proofs.NodeLemmas.{early-wins}
 use Rattle.vt_tournament.proofs.node.winner_of_source.Goals as goal

@@ -1,5 +1,5 @@
 use Rattle.std.proofs.Common.{ℕ, ◌≡◌, ◌<◌, ◌≤◌, length, sym, subst, arith}
-use Rattle.vt_tournament.specs.Contest.{Node, contestant, winner_of, node_of, node, beside, place_of_offset}
+use Rattle.vt_tournament.specs.inside.Contest.{Node, contestant, winner_of, node_of, node, beside, place_of_offset}
 use Rattle.vt_tournament.proofs.TreeLemmas.{read, below-own, below-beside, of_both}
 use Rattle.vt_tournament.proofs.tree.best_below.Goals as goal
 

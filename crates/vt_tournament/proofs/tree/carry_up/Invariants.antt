@@ -1,4 +1,4 @@
-use Rattle.vt_tournament.specs.Contest.{IsCarried}
+use Rattle.vt_tournament.specs.inside.Contest.{IsCarried}
 use Rattle.vt_tournament.proofs.tree.carry_up.Given as goal
 
 abbrev pub invariant-loop-at : goal.invariant-loop-at

@@ -1,4 +1,4 @@
-use Rattle.vt_tournament.specs.Contest.{IsDecided}
+use Rattle.vt_tournament.specs.inside.Contest.{IsDecided}
 use Rattle.vt_tournament.proofs.tree.decide_won.Given as goal
 
 abbrev pub invariant-loop-offset : goal.invariant-loop-offset

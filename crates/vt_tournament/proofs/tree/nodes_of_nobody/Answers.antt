@@ -1,5 +1,5 @@
 use Rattle.std.proofs.Common.{◌≡◌, ◌+◌, List, None, replicate, sym, subst, ap, ◌∙◌, arith}
-use Rattle.vt_tournament.specs.Contest.{Node, last_place, AreWinners}
+use Rattle.vt_tournament.specs.inside.Contest.{Node, last_place, AreWinners}
 use Rattle.vt_tournament.proofs.TreeLemmas.{nobodys_node, nobodys_tree}
 use Rattle.vt_tournament.proofs.tree.nodes_of_nobody.Goals as goal
 

@@ -1,9 +1,9 @@
 use Rattle.std.proofs.Common.{◌∙◌, [], length, sym, ap, subst}
 use Rattle.std.proofs.lemmas.List.{length-replicate}
-use Rattle.vt_model.specs.Simulation.{simulation_of}
-use Rattle.vt_steps.specs.World.{opening_board}
-use Rattle.vt_board.specs.BoardOfRun.{BoardOfRun}
-use Rattle.vt_world.specs.Held.{held_world, AreInboxes, StandsForWorld}
+use Rattle.vt_model.specs.promise.Simulation.{simulation_of}
+use Rattle.vt_steps.specs.promise.World.{opening_board}
+use Rattle.vt_board.specs.inside.BoardOfRun.{BoardOfRun}
+use Rattle.vt_world.specs.inside.Held.{held_world, AreInboxes, StandsForWorld}
 use Rattle.vt_world.proofs.MakingLemmas.{inboxes-empty, stands-opening, reached-opening, reached-none}
 use Rattle.vt_world.proofs.making.open.Goals as goal
 

@@ -5,11 +5,11 @@ use Rattle.std.proofs.lemmas.List.FromFn.{map-range_with_len_more}
 use Rattle.vt_key.specs.declared.fault.Fault.TheVariants.{Memory}
 use Rattle.vt_key.proofs.ResultLemmas.{if_err, if_refused}
 use Rattle.vt_model.specs.declared.settings.Config.{Config}
-use Rattle.vt_model.specs.Simulation.{simulation_of}
-use Rattle.vt_steps.specs.World.{Part, opening_part}
-use Rattle.vt_steps.specs.StandsFor.{StandsForPart, StandForParts}
-use Rattle.vt_kernel.specs.Held.{HeldWorker, part_memory}
-use Rattle.vt_world.specs.Held.{AreWorkers}
+use Rattle.vt_model.specs.promise.Simulation.{simulation_of}
+use Rattle.vt_steps.specs.promise.World.{Part, opening_part}
+use Rattle.vt_steps.specs.inside.StandsFor.{StandsForPart, StandForParts}
+use Rattle.vt_kernel.specs.inside.Held.{HeldWorker, part_memory}
+use Rattle.vt_world.specs.inside.Held.{AreWorkers}
 use Rattle.vt_world.proofs.MakingLemmas.{workers-push, stand-push}
 use Rattle.vt_world.proofs.making.open_workers.Goals as goal
 

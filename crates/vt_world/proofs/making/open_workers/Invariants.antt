@@ -1,10 +1,10 @@
 use Rattle.std.proofs.Common.{◌≡◌, length, map}
 use Rattle.std.specs.List.{range_with_len}
-use Rattle.vt_model.specs.Simulation.{simulation_of}
-use Rattle.vt_steps.specs.World.{opening_part}
-use Rattle.vt_steps.specs.StandsFor.{StandForParts}
-use Rattle.vt_kernel.specs.Held.{part_memory}
-use Rattle.vt_world.specs.Held.{AreWorkers}
+use Rattle.vt_model.specs.promise.Simulation.{simulation_of}
+use Rattle.vt_steps.specs.promise.World.{opening_part}
+use Rattle.vt_steps.specs.inside.StandsFor.{StandForParts}
+use Rattle.vt_kernel.specs.inside.Held.{part_memory}
+use Rattle.vt_world.specs.inside.Held.{AreWorkers}
 use Rattle.vt_world.proofs.making.open_workers.Given as goal
 
 abbrev pub invariant-loop-w : goal.invariant-loop-w

@@ -1,10 +1,10 @@
 use Rattle.std.proofs.Common.{◌≡◌, ◌∙◌, ◌+◌, List, [], ◌∷◌, ◌++◌, map, take, sym, ap}
 use Rattle.std.specs.List.{flat_map}
 use Rattle.std.proofs.lemmas.List.{take_all, take_more}
-use Rattle.vt_key.specs.Times.{earlier}
+use Rattle.vt_key.specs.promise.Times.{earlier}
 use Rattle.vt_key.specs.declared.letter.Letter.{Letter}
 use Rattle.vt_key.specs.declared.letter.Mail.{Mail}
-use Rattle.vt_steps.specs.Letters.{least_time}
+use Rattle.vt_steps.specs.promise.Letters.{least_time}
 use Rattle.vt_world.proofs.LeastLemmas.{least-more, mail-letters}
 use Rattle.vt_world.proofs.reading.least_of_inboxes.Goals as goal
 

@@ -1,7 +1,7 @@
 use Rattle.std.proofs.Common.{◌≡◌, List, map, take}
 use Rattle.std.specs.List.{flat_map}
 use Rattle.vt_key.specs.declared.letter.Mail.{Mail}
-use Rattle.vt_steps.specs.Letters.{least_time}
+use Rattle.vt_steps.specs.promise.Letters.{least_time}
 use Rattle.vt_world.proofs.reading.least_of_inboxes.Given as goal
 
 abbrev pub invariant-loop-inbox : goal.invariant-loop-inbox

@@ -1,11 +1,11 @@
 use Rattle.std.proofs.Common.{◌≡◌, ◌∙◌, ◌+◌, List, [], ◌∷◌, ◌++◌, take, sym, ap}
 use Rattle.std.specs.List.{flat_map}
 use Rattle.std.proofs.lemmas.List.{take_more}
-use Rattle.vt_key.specs.Times.{Time, earlier}
-use Rattle.vt_model.specs.Settings.{end_of}
-use Rattle.vt_steps.specs.Letters.{least_time}
-use Rattle.vt_kernel.specs.Guards.{held_letters}
-use Rattle.vt_kernel.specs.Held.{HeldWorker}
+use Rattle.vt_key.specs.promise.Times.{Time, earlier}
+use Rattle.vt_model.specs.promise.Settings.{end_of}
+use Rattle.vt_steps.specs.promise.Letters.{least_time}
+use Rattle.vt_kernel.specs.inside.Guards.{held_letters}
+use Rattle.vt_kernel.specs.inside.Held.{HeldWorker}
 use Rattle.vt_world.proofs.LeastLemmas.{least-more}
 use Rattle.vt_world.proofs.reading.least_of_workers.Goals as goal
 

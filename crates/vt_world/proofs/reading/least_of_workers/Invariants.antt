@@ -1,7 +1,7 @@
 use Rattle.std.proofs.Common.{◌≡◌, take}
 use Rattle.std.specs.List.{flat_map}
-use Rattle.vt_steps.specs.Letters.{least_time}
-use Rattle.vt_kernel.specs.Guards.{held_letters}
+use Rattle.vt_steps.specs.promise.Letters.{least_time}
+use Rattle.vt_kernel.specs.inside.Guards.{held_letters}
 use Rattle.vt_world.proofs.reading.least_of_workers.Given as goal
 
 abbrev pub invariant-loop-kernel : goal.invariant-loop-kernel

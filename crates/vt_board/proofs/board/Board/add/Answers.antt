@@ -1,8 +1,8 @@
 use Rattle.std.proofs.Common.{◌≡◌, ◌+◌, ◌≤◌, true, List, Bool, length, slice_get, slice_set, subst, sym, ap, ◌∙◌, arith}
 use Rattle.std.proofs.lemmas.List.{length-set}
-use Rattle.vt_key.specs.Times.{TimeAtMost}
-use Rattle.vt_steps.specs.BoardSteps.{is_clear}
-use Rattle.vt_board.specs.BoardOfRun.{BoardOfRun, most_summed}
+use Rattle.vt_key.specs.promise.Times.{TimeAtMost}
+use Rattle.vt_steps.specs.promise.BoardSteps.{is_clear}
+use Rattle.vt_board.specs.inside.BoardOfRun.{BoardOfRun, most_summed}
 use Rattle.vt_board.proofs.Sums.{summed}
 use Rattle.vt_board.proofs.board.Board.add.Goals as goal
 

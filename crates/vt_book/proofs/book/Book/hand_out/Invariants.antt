@@ -1,4 +1,4 @@
-use Rattle.vt_steps.specs.World.{book_records}
+use Rattle.vt_steps.specs.promise.World.{book_records}
 use Rattle.vt_book.proofs.book.Book.hand_out.Given as goal
 
 abbrev pub ghost-give : goal.ghost-give

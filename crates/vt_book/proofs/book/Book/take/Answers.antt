@@ -1,14 +1,15 @@
 use Rattle.std.proofs.Common.{append_assoc, arith, length, length-append, ◌≡◌, ◌≤◌, ◌++◌, [], true, List, sym, ap, ◌∙◌, subst, slice_set}
 use Rattle.std.specs.List.{sum_by}
-use Rattle.vt_key.specs.Times.{Time}
+use Rattle.vt_key.specs.promise.Times.{Time}
 use Rattle.vt_model.specs.declared.rows.Record.{Record}
 use Rattle.vt_model.specs.declared.rows.Row.{Row}
-use Rattle.vt_model.specs.Sequential.{rows_before, records_of}
-use Rattle.vt_steps.specs.BookSteps.{with_rows}
-use Rattle.vt_steps.specs.Letters.{least_of}
-use Rattle.vt_steps.specs.Rows.{AreSameRows, rows_in_order}
-use Rattle.vt_book.specs.Books.{RunBook, may_hand}
-use Rattle.vt_book.specs.Kept.{IsKept}
+use Rattle.vt_model.specs.promise.Sequential.{rows_before, records_of}
+use Rattle.vt_steps.specs.promise.BookSteps.{with_rows}
+use Rattle.vt_steps.specs.promise.Letters.{least_of}
+use Rattle.vt_steps.specs.promise.Rows.{rows_in_order}
+use Rattle.vt_steps.specs.inside.Rows.{AreSameRows}
+use Rattle.vt_book.specs.inside.Books.{RunBook, may_hand}
+use Rattle.vt_book.specs.inside.Kept.{IsKept}
 use Rattle.vt_steps.proofs.time.Floors.{floor-rises}
 use Rattle.vt_book.proofs.RowLists.{same-behind, same-length}
 use Rattle.vt_book.proofs.KeptLemmas.{lawful, kept-after, late-after}

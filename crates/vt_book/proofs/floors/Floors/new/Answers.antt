@@ -1,6 +1,6 @@
 use Rattle.std.proofs.Common.{ℕ, take, replicate, ap, ◌∙◌}
 use Rattle.std.proofs.lemmas.List.{take-replicate}
-use Rattle.vt_key.specs.Times.{opening_time}
+use Rattle.vt_key.specs.promise.Times.{opening_time}
 use Rattle.vt_key.specs.declared.limits.TheConstants.{MAX_WORKERS}
 use Rattle.vt_book.proofs.floors.Floors.new.Goals as goal
 

@@ -1,6 +1,6 @@
 use Rattle.std.proofs.Common.{◌≡◌, Bool, ◌||◌, sym, ap, ◌∙◌}
 use Rattle.std.specs.List.{list_any}
-use Rattle.vt_calendar.specs.Slots.{items_in}
+use Rattle.vt_calendar.specs.inside.Slots.{items_in}
 use Rattle.vt_calendar.proofs.TakenLemmas.{any-kept, one-of-first, only-last}
 use Rattle.vt_calendar.proofs.calendar.Calendar.any.Goals.{then-any_of, else-any_of}
 use Rattle.vt_calendar.proofs.calendar.Calendar.any.Goals as goal

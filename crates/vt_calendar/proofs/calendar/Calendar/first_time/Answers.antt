@@ -1,7 +1,7 @@
 use Rattle.std.proofs.Common.{List, slice_get, sym, ap, ◌∙◌}
 use Rattle.std.specs.Option.{option_map}
 use Rattle.vt_key.specs.declared.letter.Letter.{Letter}
-use Rattle.vt_calendar.specs.Kept.{time_of, in_order, letters_kept, IsReady}
+use Rattle.vt_calendar.specs.inside.Kept.{time_of, in_order, letters_kept, IsReady}
 use Rattle.vt_calendar.proofs.TakenLemmas.{ready-first, late-first}
 use Rattle.vt_calendar.proofs.calendar.Calendar.first_time.Given.{Over}
 use Rattle.vt_calendar.proofs.calendar.Calendar.first_time.Goals.{After-settle}

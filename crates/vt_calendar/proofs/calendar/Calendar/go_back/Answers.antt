@@ -1,10 +1,10 @@
 use Rattle.std.proofs.Common.{◌≡◌, ◌++◌, List, [], ℕ, sym, subst, ap, ◌∙◌, ◌-◌, arith}
 use Rattle.std.specs.List.Sorted.{IsPermutation}
-use Rattle.vt_key.specs.Times.{TimeAtMost}
+use Rattle.vt_key.specs.promise.Times.{TimeAtMost}
 use Rattle.vt_key.specs.declared.letter.Letter.{Letter}
-use Rattle.vt_calendar.specs.Digits.{first_kept}
-use Rattle.vt_calendar.specs.Slots.{AreMoved}
-use Rattle.vt_calendar.specs.Kept.{earliest, in_order, letters_kept, IsKept}
+use Rattle.vt_calendar.specs.inside.Digits.{first_kept}
+use Rattle.vt_calendar.specs.inside.Slots.{AreMoved}
+use Rattle.vt_calendar.specs.inside.Kept.{earliest, in_order, letters_kept, IsKept}
 use Rattle.vt_calendar.proofs.KeptLemmas.{kept-spread, back-same, back-from, back-placed}
 use Rattle.vt_calendar.proofs.calendar.Calendar.go_back.Given.{Over}
 use Rattle.vt_calendar.proofs.calendar.Calendar.go_back.Goals.{After-take_before, After-spread}

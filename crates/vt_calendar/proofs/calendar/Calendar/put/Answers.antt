@@ -1,10 +1,11 @@
 use Rattle.std.proofs.Common.{◌≡◌, ◌∷◌, ℕ, List, false, subst, ap, ◌∙◌}
-use Rattle.vt_key.specs.Times.{Time, TimeBefore, TimeAtMost}
-use Rattle.vt_key.specs.Queues.{letter_rank, holds_rank, insert_letter}
+use Rattle.vt_key.specs.promise.Times.{Time, TimeBefore, TimeAtMost}
+use Rattle.vt_key.specs.promise.Queues.{letter_rank, insert_letter}
+use Rattle.vt_key.specs.inside.Queues.{holds_rank}
 use Rattle.vt_key.specs.declared.letter.Letter.{Letter}
-use Rattle.vt_calendar.specs.Digits.{slot_of}
-use Rattle.vt_calendar.specs.Slots.{IsChanged}
-use Rattle.vt_calendar.specs.Kept.{time_of, in_order, letters_kept, IsKept}
+use Rattle.vt_calendar.specs.inside.Digits.{slot_of}
+use Rattle.vt_calendar.specs.inside.Slots.{IsChanged}
+use Rattle.vt_calendar.specs.inside.Kept.{time_of, in_order, letters_kept, IsKept}
 use Rattle.vt_calendar.proofs.KeptLemmas.{is-later, isnt-later, put-in_slot, put-late}
 use Rattle.vt_calendar.proofs.calendar.Calendar.put.Given.{Over}
 use Rattle.vt_calendar.proofs.calendar.Calendar.put.Goals.{After-gt, After-put, After-insert}

@@ -1,6 +1,6 @@
-use Rattle.vt_key.specs.Queues.{IsRising}
+use Rattle.vt_key.specs.inside.Queues.{IsRising}
 use Rattle.std.proofs.Common.{subst}
-use Rattle.vt_calendar.specs.Kept.{letters_kept}
+use Rattle.vt_calendar.specs.inside.Kept.{letters_kept}
 use Rattle.vt_calendar.proofs.ApartLemmas.{rising-order}
 use Rattle.vt_calendar.proofs.calendar.Calendar.rises.Goals as goal
 

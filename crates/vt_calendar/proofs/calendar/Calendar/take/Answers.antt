@@ -1,10 +1,10 @@
 use Rattle.std.proofs.Common.{◌≡◌, ℕ, List, Some, find, subst, ap, ◌∙◌}
-use Rattle.vt_key.specs.Times.{Time, TimeBefore, TimeAtMost}
-use Rattle.vt_key.specs.Queues.{has_rank, without_first}
+use Rattle.vt_key.specs.promise.Times.{Time, TimeBefore, TimeAtMost}
+use Rattle.vt_key.specs.promise.Queues.{has_rank, without_first}
 use Rattle.vt_key.specs.declared.letter.Letter.{Letter}
-use Rattle.vt_calendar.specs.Digits.{slot_of}
-use Rattle.vt_calendar.specs.Slots.{IsChanged}
-use Rattle.vt_calendar.specs.Kept.{in_order, letters_kept}
+use Rattle.vt_calendar.specs.inside.Digits.{slot_of}
+use Rattle.vt_calendar.specs.inside.Slots.{IsChanged}
+use Rattle.vt_calendar.specs.inside.Kept.{in_order, letters_kept}
 use Rattle.vt_calendar.proofs.KeptLemmas.{is-later, isnt-later}
 use Rattle.vt_calendar.proofs.TakenLemmas.{IsWithout, out-of_slot, out-of_late, out-of_present}
 use Rattle.vt_calendar.proofs.calendar.Calendar.take.Given.{Over}

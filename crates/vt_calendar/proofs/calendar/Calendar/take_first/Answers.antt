@@ -1,6 +1,6 @@
 use Rattle.std.proofs.Common.{◌≡◌, ◌∷◌, [], List, MatchOption, sym, subst, ◌∙◌}
 use Rattle.vt_key.specs.declared.letter.Letter.{Letter}
-use Rattle.vt_calendar.specs.Kept.{in_order, letters_kept, IsKept}
+use Rattle.vt_calendar.specs.inside.Kept.{in_order, letters_kept, IsKept}
 use Rattle.vt_calendar.proofs.TakenLemmas.{ready-taken, late-taken}
 use Rattle.vt_calendar.proofs.calendar.Calendar.take_first.Given.{Over}
 use Rattle.vt_calendar.proofs.calendar.Calendar.take_first.Goals.{After-pop_front, After-pop_front-2}

@@ -2,7 +2,7 @@ use Rattle.std.proofs.Common.{◌≡◌, ◌∙◌, List, Some, slice_get, sym, 
 use Rattle.std.specs.List.{list_any}
 use Rattle.std.proofs.lemmas.Option.{slice_get-get_or}
 use Rattle.vt_key.specs.declared.letter.Letter.{Letter}
-use Rattle.vt_calendar.specs.Slots.{items_in}
+use Rattle.vt_calendar.specs.inside.Slots.{items_in}
 use Rattle.vt_calendar.proofs.SlotLemmas.{any-found, any-more}
 use Rattle.vt_calendar.proofs.slots.Slots.any.Given.{Over}
 use Rattle.vt_calendar.proofs.slots.Slots.any.Goals.{After-any_of}

@@ -1,6 +1,6 @@
 use Rattle.std.proofs.Common.{◌≡◌, false, take}
 use Rattle.std.specs.List.{list_any}
-use Rattle.vt_calendar.specs.Slots.{items_in}
+use Rattle.vt_calendar.specs.inside.Slots.{items_in}
 use Rattle.vt_calendar.proofs.slots.Slots.any.Given as goal
 
 abbrev pub invariant-loop-list : goal.invariant-loop-list

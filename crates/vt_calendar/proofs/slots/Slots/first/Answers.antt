@@ -1,7 +1,7 @@
 use Rattle.std.proofs.Common.{◌≡◌, ◌≤◌, [], List, Bool, true, Some, slice_get, sym, subst, arith}
 use Rattle.std.proofs.lemmas.Option.{IfSome_then, slice_get_within}
 use Rattle.vt_key.specs.declared.letter.Letter.{Letter}
-use Rattle.vt_calendar.specs.Slots.{items_in, AreEmpty, IsUsedAt}
+use Rattle.vt_calendar.specs.inside.Slots.{items_in, AreEmpty, IsUsedAt}
 use Rattle.vt_calendar.proofs.SlotLemmas.{marked-used, unmarked-empty, unmarked-none, if-none}
 use Rattle.vt_calendar.proofs.slots.Slots.first.Goals as goal
 

@@ -1,6 +1,6 @@
 use Rattle.std.proofs.Common.{◌≡◌, ◌∷◌, List, true, false, Some, slice_get, slice_set, sym, subst, ap, ◌∙◌, arith}
 use Rattle.vt_key.specs.declared.letter.Letter.{Letter}
-use Rattle.vt_calendar.specs.Slots.{is_used, IsChanged}
+use Rattle.vt_calendar.specs.inside.Slots.{is_used, IsChanged}
 use Rattle.vt_calendar.proofs.SlotLemmas.{list-there, marks-set, same-marks, some-used}
 use Rattle.vt_calendar.proofs.slots.Slots.put.Goals.{After-push_front}
 use Rattle.vt_calendar.proofs.slots.Slots.put.Given.{Over}

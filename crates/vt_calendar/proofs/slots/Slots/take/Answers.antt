@@ -1,7 +1,7 @@
 use Rattle.std.proofs.Common.{◌≡◌, List, not, Some, find, slice_get, slice_set, subst, ap, arith}
-use Rattle.vt_key.specs.Queues.{has_rank, without_first}
+use Rattle.vt_key.specs.promise.Queues.{has_rank, without_first}
 use Rattle.vt_key.specs.declared.letter.Letter.{Letter}
-use Rattle.vt_calendar.specs.Slots.{IsChanged}
+use Rattle.vt_calendar.specs.inside.Slots.{IsChanged}
 use Rattle.vt_calendar.proofs.SlotLemmas.{list-there, marks-set, used-by}
 use Rattle.vt_calendar.proofs.slots.Slots.take.Goals as goal
 

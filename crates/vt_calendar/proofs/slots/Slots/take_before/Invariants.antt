@@ -1,7 +1,7 @@
 use Rattle.std.proofs.Common.{◌≡◌, ℕ, ◌≤◌, ◌++◌, List, Some, slice_get, length}
 use Rattle.std.specs.List.Sorted.{IsPermutation}
 use Rattle.vt_key.specs.declared.letter.Letter.{Letter}
-use Rattle.vt_calendar.specs.Slots.{items_in}
+use Rattle.vt_calendar.specs.inside.Slots.{items_in}
 use Rattle.vt_calendar.proofs.slots.Slots.take_before.Given as goal
 
 abbrev pub invariant-loop-slot : goal.invariant-loop-slot

@@ -1,7 +1,7 @@
 use Rattle.std.proofs.Common.{of_calls, ◌∙◌, Some, slice_set, sym, ap}
 use Rattle.std.proofs.lemmas.Option.{slice_get-get_or}
-use Rattle.vt_lp.specs.Held.{HeldProcess}
-use Rattle.vt_contest.specs.Entries.{ready_of, unready_of}
+use Rattle.vt_lp.specs.inside.Held.{HeldProcess}
+use Rattle.vt_contest.specs.inside.Entries.{ready_of, unready_of}
 use Rattle.vt_contest.proofs.EntryLemmas.{entry-there, past-told}
 use Rattle.vt_contest.proofs.ContestLemmas.{was-entered, marks-anew, told-anew}
 use Rattle.vt_contest.proofs.contest.Contest.enter.Goals as goal

@@ -1,9 +1,9 @@
 use Rattle.std.proofs.Common.{◌≡◌, ◌∙◌, Some, slice_set, sym, ap, subst}
 use Rattle.std.proofs.lemmas.Option.{slice_get-get_or}
 use Rattle.vt_steps.proofs.lists.Places.{get-put_same}
-use Rattle.vt_lp.specs.Held.{HeldProcess}
-use Rattle.vt_contest.specs.Entries.{entries_of, ready_of, unready_of, TellsLeast}
-use Rattle.vt_contest.specs.Contest.{AreReady, AreUnready}
+use Rattle.vt_lp.specs.inside.Held.{HeldProcess}
+use Rattle.vt_contest.specs.inside.Entries.{entries_of, ready_of, unready_of, TellsLeast}
+use Rattle.vt_contest.specs.inside.Contest.{AreReady, AreUnready}
 use Rattle.vt_contest.proofs.Written.{put-back, get-all}
 use Rattle.vt_contest.proofs.EntryLemmas.{past-told, entries-kept}
 use Rattle.vt_contest.proofs.RankLemmas.{ready-kept, unready-kept, least-kept, nobody-unready}

@@ -1,5 +1,5 @@
 use Rattle.std.proofs.Common.{◌∙◌}
-use Rattle.vt_contest.specs.Entries.{entries_of, ready_of, unready_of}
+use Rattle.vt_contest.specs.inside.Entries.{entries_of, ready_of, unready_of}
 use Rattle.vt_contest.proofs.WinnerLemmas.{winner-within}
 use Rattle.vt_contest.proofs.LeastLemmas.{ready-first, unready-first, told-first, both-first}
 use Rattle.vt_contest.proofs.contest.Contest.least.Goals as goal

@@ -1,6 +1,6 @@
 use Rattle.std.proofs.Common.{◌≡◌, ◌∙◌, length, max, subst}
-use Rattle.vt_tournament.specs.Contest.{IsTournamentOf}
-use Rattle.vt_contest.specs.Entries.{ready_of, unready_of}
+use Rattle.vt_tournament.specs.inside.Contest.{IsTournamentOf}
+use Rattle.vt_contest.specs.inside.Entries.{ready_of, unready_of}
 use Rattle.vt_contest.proofs.IdleLemmas.{ready-idle, unready-idle, entries-idle, marked-idle, all-tell-idle}
 use Rattle.vt_contest.proofs.contest.Contest.new.Goals as goal
 

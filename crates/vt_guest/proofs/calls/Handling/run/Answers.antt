@@ -1,10 +1,10 @@
 use Rattle.std.proofs.Common.{◌≡◌, ℕ, suc, ◌+◌, ◌-◌, ◌<◌, ◌≤◌, ◌∙◌, sym, ap, arith}
-use Rattle.vt_stream.specs.Words.{Stream, word_of, moved}
+use Rattle.vt_stream.specs.inside.Words.{Stream, word_of, moved}
 use Rattle.vt_stream.proofs.DrawLemmas.{moved-moved, word_after}
 use Rattle.vt_guest.specs.declared.calls.Handling.{Handling}
 use Rattle.vt_guest.specs.declared.calls.Next.TheVariants.{On, Ended, Trapped}
-use Rattle.vt_guest.specs.Calls.{answered_by, most_draws}
-use Rattle.vt_guest.specs.Handling.{Handled, handled}
+use Rattle.vt_guest.specs.promise.Calls.{answered_by, most_draws}
+use Rattle.vt_guest.specs.promise.Handling.{Handled, handled}
 use Rattle.vt_guest.proofs.RunLemmas.{handled-as, handled-draw, handled-overdrawn, handled-none, turn_keeps}
 use Rattle.vt_guest.proofs.calls.Handling.run.Goals as goal
 

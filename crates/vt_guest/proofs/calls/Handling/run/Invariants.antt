@@ -1,6 +1,6 @@
 use Rattle.std.proofs.Common.{◌≡◌}
-use Rattle.vt_stream.specs.Words.{word_of, moved}
-use Rattle.vt_guest.specs.Handling.{handled}
+use Rattle.vt_stream.specs.inside.Words.{word_of, moved}
+use Rattle.vt_guest.specs.promise.Handling.{handled}
 use Rattle.vt_guest.proofs.calls.Handling.run.Given as goal
 
 abbrev pub invariant-calls : goal.invariant-calls

@@ -1,7 +1,7 @@
 use Rattle.std.proofs.Common.{◌≡◌, ℕ, suc, ◌-◌, ◌≤◌, ◌∙◌, sym, ap, arith}
 use Rattle.vt_guest.specs.declared.calls.Next.TheVariants.{On, Ended, Trapped}
-use Rattle.vt_guest.specs.Calls.{most_draws}
-use Rattle.vt_guest.specs.Handling.{Handled}
+use Rattle.vt_guest.specs.promise.Calls.{most_draws}
+use Rattle.vt_guest.specs.promise.Handling.{Handled}
 use Rattle.vt_guest.proofs.RunLemmas.{handled-as, handled-overdrawn, handled-none}
 use Rattle.vt_guest.proofs.calls.Handling.run_drawless.Goals as goal
 

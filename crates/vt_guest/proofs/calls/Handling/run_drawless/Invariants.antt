@@ -1,5 +1,5 @@
 use Rattle.std.proofs.Common.{◌≡◌, ℕ}
-use Rattle.vt_guest.specs.Handling.{handled}
+use Rattle.vt_guest.specs.promise.Handling.{handled}
 use Rattle.vt_guest.proofs.calls.Handling.run_drawless.Given as goal
 
 abbrev pub invariant-calls : goal.invariant-calls

@@ -1,15 +1,15 @@
 use Rattle.std.proofs.Common.{◌≡◌, ℕ, List, [], ◌∷◌, Bool, true, ◌∙◌, map, All, nat_eq, if◌then◌else◌, sym, ap, subst, append-nil, arith, Ok, Err}
-use Rattle.vt_stream.specs.Words.{word_of}
-use Rattle.vt_model.specs.Handler.{IsSendable}
-use Rattle.vt_model.specs.Sends.{Outgoing, with_requests}
+use Rattle.vt_stream.specs.inside.Words.{word_of}
+use Rattle.vt_model.specs.inside.Handler.{IsSendable}
+use Rattle.vt_model.specs.inside.Sends.{Outgoing, with_requests}
 use Rattle.vt_model.proofs.SendLemmas.{with_requests-append}
 use Rattle.vt_guest.specs.declared.trap.TheConstants.{TRAP}
 use Rattle.vt_guest.specs.declared.calls.Handler.TheVariants.{Forward}
 use Rattle.vt_guest.specs.declared.calls.Request.{Request}
 use Rattle.vt_guest.specs.declared.process.Words.{Words}
-use Rattle.vt_guest.specs.Handling.{Handled, begun, handled}
-use Rattle.vt_guest.specs.Handlers.{asked, recorded, host_of, event_gives, trap_gives, event_run, guest_forward}
-use Rattle.vt_guest.specs.Laws.{IsLawful, event_lawful}
+use Rattle.vt_guest.specs.promise.Handling.{Handled, begun, handled}
+use Rattle.vt_guest.specs.promise.Handlers.{asked, recorded, host_of, event_gives, trap_gives, event_run, guest_forward}
+use Rattle.vt_guest.specs.inside.Laws.{IsLawful, event_lawful}
 use Rattle.vt_guest.proofs.TrapLemmas.{whole-test}
 use Rattle.vt_guest.proofs.guest.GuestEventModel.forward.Goals as goal
 

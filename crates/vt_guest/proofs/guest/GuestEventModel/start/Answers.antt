@@ -1,11 +1,11 @@
 use Rattle.std.proofs.Common.{◌≡◌, ℕ, List, ◌∙◌, map, All, sym, ap, subst, Err}
-use Rattle.vt_stream.specs.Words.{word_of}
-use Rattle.vt_model.specs.Handler.{IsSendable}
+use Rattle.vt_stream.specs.inside.Words.{word_of}
+use Rattle.vt_model.specs.inside.Handler.{IsSendable}
 use Rattle.vt_guest.specs.declared.calls.Handler.TheVariants.{Start}
 use Rattle.vt_guest.specs.declared.calls.Request.{Request}
-use Rattle.vt_guest.specs.Handling.{Handled, handled}
-use Rattle.vt_guest.specs.Handlers.{asked, host_of, start_gives, start_run}
-use Rattle.vt_guest.specs.Laws.{IsLawful, start_lawful}
+use Rattle.vt_guest.specs.promise.Handling.{Handled, handled}
+use Rattle.vt_guest.specs.promise.Handlers.{asked, host_of, start_gives, start_run}
+use Rattle.vt_guest.specs.inside.Laws.{IsLawful, start_lawful}
 use Rattle.vt_guest.proofs.guest.GuestEventModel.start.Goals as goal
 
 pub send_all-requires-clause-sendable : goal.send_all-requires-clause-sendable

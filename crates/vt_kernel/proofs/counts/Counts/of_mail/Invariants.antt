@@ -1,6 +1,6 @@
 use Rattle.std.proofs.Common.{◌≡◌, ◌+◌, take}
 use Rattle.vt_key.specs.declared.letter.Colour.TheVariants.{White, Red}
-use Rattle.vt_steps.specs.Letters.{count_colour}
+use Rattle.vt_steps.specs.promise.Letters.{count_colour}
 use Rattle.vt_kernel.proofs.counts.Counts.of_mail.Given as goal
 
 abbrev pub invariant-loop-mail : goal.invariant-loop-mail

@@ -1,19 +1,19 @@
 use Rattle.std.proofs.Common.{rules, ◌≡◌, ◌≤◌, ◌∙◌, length, slice_get, slice_set, None, Some, List, [], sym, ap, subst, refl, true, false}
 use Rattle.std.proofs.lemmas.Option.{slice_get_past}
-use Rattle.vt_key.specs.Times.{TimeBefore}
+use Rattle.vt_key.specs.promise.Times.{TimeBefore}
 use Rattle.vt_key.specs.declared.fault.Fault.{Fault}
 use Rattle.vt_key.specs.declared.fault.Fault.TheVariants.{NotLawful, Memory}
 use Rattle.vt_key.specs.declared.letter.Letter.{Letter}
 use Rattle.vt_key.specs.declared.letter.Mail.{Mail}
-use Rattle.vt_model.specs.Simulation.{simulation_of}
-use Rattle.vt_model.specs.Settings.{end_of}
-use Rattle.vt_steps.specs.ProcessSteps.{accept_process}
-use Rattle.vt_steps.specs.Cells.{local_step}
+use Rattle.vt_model.specs.promise.Simulation.{simulation_of}
+use Rattle.vt_model.specs.promise.Settings.{end_of}
+use Rattle.vt_steps.specs.promise.ProcessSteps.{accept_process}
+use Rattle.vt_steps.specs.inside.Cells.{local_step}
 use Rattle.vt_steps.specs.declared.step.Step.TheVariants as step
-use Rattle.vt_lp.specs.Held.{HeldProcess}
-use Rattle.vt_lp.specs.Guards.{holds_letter, would_lead, IsDone as ProcessIsDone}
-use Rattle.vt_kernel.specs.Held.{HeldWorker, IsOwnMail, AllOwnMail, IsWorkerInside}
-use Rattle.vt_kernel.specs.Guards.{IsDone, IsAcceptRefusal}
+use Rattle.vt_lp.specs.inside.Held.{HeldProcess}
+use Rattle.vt_lp.specs.inside.Guards.{holds_letter, would_lead, IsDone as ProcessIsDone}
+use Rattle.vt_kernel.specs.inside.Held.{HeldWorker, IsOwnMail, AllOwnMail, IsWorkerInside}
+use Rattle.vt_kernel.specs.inside.Guards.{IsDone, IsAcceptRefusal}
 use Rattle.vt_contest.proofs.ContestLemmas.{contest-kept}
 use Rattle.vt_kernel.proofs.PartLemmas.{stands_along}
 use Rattle.vt_kernel.proofs.LocalLemmas.{view_of, place-within, inside-changed, written-same}

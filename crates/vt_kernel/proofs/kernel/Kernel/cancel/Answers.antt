@@ -1,13 +1,13 @@
 use Rattle.std.proofs.Common.{rules, ◌≡◌, ◌∙◌, Bool, true, false, Option, None, Some, slice_get, slice_set, List, ap, sym, subst}
 use Rattle.std.specs.Option.{option_map_or}
 use Rattle.vt_key.specs.declared.order.Stamp.{Stamp}
-use Rattle.vt_model.specs.Simulation.{simulation_of}
-use Rattle.vt_steps.specs.ProcessSteps.{can_annihilate, cancel_process}
-use Rattle.vt_steps.specs.Cells.{local_step}
+use Rattle.vt_model.specs.promise.Simulation.{simulation_of}
+use Rattle.vt_steps.specs.promise.ProcessSteps.{can_annihilate, cancel_process}
+use Rattle.vt_steps.specs.inside.Cells.{local_step}
 use Rattle.vt_steps.specs.declared.step.Step.TheVariants as step
-use Rattle.vt_lp.specs.Held.{HeldProcess}
-use Rattle.vt_kernel.specs.Held.{HeldWorker, IsWorkerInside, process_of}
-use Rattle.vt_kernel.specs.Guards.{IsDone, may_annihilate}
+use Rattle.vt_lp.specs.inside.Held.{HeldProcess}
+use Rattle.vt_kernel.specs.inside.Held.{HeldWorker, IsWorkerInside, process_of}
+use Rattle.vt_kernel.specs.inside.Guards.{IsDone, may_annihilate}
 use Rattle.vt_kernel.proofs.PartLemmas.{stands_along}
 use Rattle.vt_kernel.proofs.LocalLemmas.{view_of, place-within, inside-changed, unknown-refused, unknown-none, changed-done, changed-refused, written-same, own-process, other-process}
 use Rattle.vt_kernel.proofs.ReentryLemmas.{process-there, may-enter}

@@ -1,9 +1,9 @@
 use Rattle.std.proofs.Common.{◌≡◌, ◌+◌, ◌∙◌, true, inl, inr, List, arith, sym, ap, subst, rules, refl}
 use Rattle.vt_key.specs.declared.letter.Colour.TheVariants.{White, Red}
 use Rattle.vt_key.specs.declared.letter.Mail.{Mail}
-use Rattle.vt_steps.specs.Letters.{is_empty, count_colour}
-use Rattle.vt_steps.specs.PartSteps.{part_after_fetch}
-use Rattle.vt_kernel.specs.Held.{HeldWorker, AllOwnMail, StandsFor}
+use Rattle.vt_steps.specs.promise.Letters.{is_empty, count_colour}
+use Rattle.vt_steps.specs.promise.PartSteps.{part_after_fetch}
+use Rattle.vt_kernel.specs.inside.Held.{HeldWorker, AllOwnMail, StandsFor}
 use Rattle.vt_kernel.proofs.EmptyLemmas.{is_empty-answer}
 use Rattle.vt_kernel.proofs.InsideLemmas.{inside-arrived}
 use Rattle.vt_kernel.proofs.PartLemmas.{stands-fetch}

@@ -3,17 +3,17 @@ use Rattle.std.proofs.lemmas.Result.{IfErr-weaker, IfOk-weaker}
 use Rattle.vt_key.specs.declared.fault.Fault.TheVariants.{NotLawful}
 use Rattle.vt_key.specs.declared.limits.TheConstants.{MAX_COUNT}
 use Rattle.vt_model.specs.declared.settings.Config.{Config}
-use Rattle.vt_model.specs.Simulation.{simulation_of}
-use Rattle.vt_steps.specs.World.{Part}
-use Rattle.vt_steps.specs.ProcessSteps.{execute_process}
-use Rattle.vt_steps.specs.Cells.{local_step}
+use Rattle.vt_model.specs.promise.Simulation.{simulation_of}
+use Rattle.vt_steps.specs.promise.World.{Part}
+use Rattle.vt_steps.specs.promise.ProcessSteps.{execute_process}
+use Rattle.vt_steps.specs.inside.Cells.{local_step}
 use Rattle.vt_steps.specs.declared.step.Step.TheVariants as step
 use Rattle.vt_steps.proofs.lists.Places.{get-put_same}
-use Rattle.vt_lp.specs.Held.{HeldProcess}
-use Rattle.vt_lp.specs.Guards.{IsDone as ProcessIsDone, IsExecuteRefusal as ProcessRefusal}
-use Rattle.vt_kernel.specs.Held.{HeldWorker, StandsFor, process_of}
-use Rattle.vt_kernel.specs.Guards.{IsDone, IsExecuteRefusal}
-use Rattle.vt_kernel.specs.Refusals.{PassesIn}
+use Rattle.vt_lp.specs.inside.Held.{HeldProcess}
+use Rattle.vt_lp.specs.inside.Guards.{IsDone as ProcessIsDone, IsExecuteRefusal as ProcessRefusal}
+use Rattle.vt_kernel.specs.inside.Held.{HeldWorker, StandsFor, process_of}
+use Rattle.vt_kernel.specs.inside.Guards.{IsDone, IsExecuteRefusal}
+use Rattle.vt_kernel.specs.promise.Refusals.{PassesIn}
 use Rattle.vt_model.proofs.Sizes.{out_fits}
 use Rattle.vt_kernel.proofs.PartLemmas.{stands_along}
 use Rattle.vt_kernel.proofs.ProcessLemmas.{process-at, processes-changed}

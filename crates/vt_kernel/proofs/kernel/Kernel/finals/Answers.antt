@@ -1,6 +1,6 @@
 use Rattle.std.proofs.Common.{◌≡◌, ◌∙◌, ap, subst}
 use Rattle.std.proofs.lemmas.Result.{IfOk-weaker}
-use Rattle.vt_kernel.specs.Held.{HeldWorker, held_values, AreProcesses}
+use Rattle.vt_kernel.specs.inside.Held.{HeldWorker, held_values, AreProcesses}
 use Rattle.vt_kernel.proofs.FinalLemmas.{values-stood}
 use Rattle.vt_kernel.proofs.kernel.Kernel.finals.Goals as goal
 

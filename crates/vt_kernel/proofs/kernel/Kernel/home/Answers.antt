@@ -1,20 +1,20 @@
 use Rattle.std.proofs.Common.{rules, ◌≡◌, ◌∙◌, None, Some, slice_get, slice_set, List, [], sym, ap, subst, refl, false}
 use Rattle.std.specs.List.{find}
-use Rattle.vt_key.specs.Times.{TimeBefore}
-use Rattle.vt_key.specs.Queues.{without_first}
+use Rattle.vt_key.specs.promise.Times.{TimeBefore}
+use Rattle.vt_key.specs.promise.Queues.{without_first}
 use Rattle.vt_key.specs.declared.letter.Letter.{Letter}
 use Rattle.vt_model.specs.declared.settings.Config.{Config}
-use Rattle.vt_model.specs.Simulation.{simulation_of}
-use Rattle.vt_model.specs.Settings.{end_of}
+use Rattle.vt_model.specs.promise.Simulation.{simulation_of}
+use Rattle.vt_model.specs.promise.Settings.{end_of}
 use Rattle.vt_steps.specs.declared.step.Step.TheVariants as step
-use Rattle.vt_lp.specs.Held.{HeldProcess, AllWithinRun, IsWithinRun}
-use Rattle.vt_steps.specs.ProcessSteps.{accept_process}
-use Rattle.vt_steps.specs.PartSteps.{is_for}
-use Rattle.vt_steps.specs.Cells.{local_step}
-use Rattle.vt_lp.specs.Guards.{would_lead, IsDone as ProcessIsDone}
-use Rattle.vt_outbox.specs.Outbox.{HeldOutbox}
-use Rattle.vt_kernel.specs.Held.{HeldWorker, IsWorkerInside}
-use Rattle.vt_kernel.specs.Guards.{IsDone}
+use Rattle.vt_lp.specs.inside.Held.{HeldProcess, AllWithinRun, IsWithinRun}
+use Rattle.vt_steps.specs.promise.ProcessSteps.{accept_process}
+use Rattle.vt_steps.specs.promise.PartSteps.{is_for}
+use Rattle.vt_steps.specs.inside.Cells.{local_step}
+use Rattle.vt_lp.specs.inside.Guards.{would_lead, IsDone as ProcessIsDone}
+use Rattle.vt_outbox.specs.inside.Outbox.{HeldOutbox}
+use Rattle.vt_kernel.specs.inside.Held.{HeldWorker, IsWorkerInside}
+use Rattle.vt_kernel.specs.inside.Guards.{IsDone}
 use Rattle.vt_contest.proofs.ContestLemmas.{contest-kept}
 use Rattle.vt_kernel.proofs.PartLemmas.{stands_along}
 use Rattle.vt_kernel.proofs.LocalLemmas.{view_of, place-within, inside-changed, written-same}

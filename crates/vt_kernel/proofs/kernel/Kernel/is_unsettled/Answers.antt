@@ -1,9 +1,9 @@
 use Rattle.std.proofs.Common.{◌≡◌, ◌∙◌, false, Some, slice_get, sym, ap, subst}
 use Rattle.std.specs.Option.{option_map_or}
-use Rattle.vt_model.specs.Simulation.{simulation_of}
-use Rattle.vt_lp.specs.Guards.{is_unsettled}
-use Rattle.vt_kernel.specs.Held.{HeldWorker, process_of}
-use Rattle.vt_kernel.specs.Local.{IsSettled}
+use Rattle.vt_model.specs.promise.Simulation.{simulation_of}
+use Rattle.vt_lp.specs.inside.Guards.{is_unsettled}
+use Rattle.vt_kernel.specs.inside.Held.{HeldWorker, process_of}
+use Rattle.vt_kernel.specs.inside.Local.{IsSettled}
 use Rattle.vt_kernel.proofs.PartLemmas.{stands_along}
 use Rattle.vt_kernel.proofs.LocalLemmas.{view_of, own-process}
 use Rattle.vt_kernel.proofs.SettledWorker.{unknown-settled, nothing-at}

@@ -1,15 +1,15 @@
 use Rattle.std.proofs.Common.{◌≡◌, ◌∙◌, ◌++◌, List, map, sym, ap, subst}
 use Rattle.std.specs.List.{All, flat_map}
-use Rattle.vt_key.specs.Times.{Time, earlier}
+use Rattle.vt_key.specs.promise.Times.{Time, earlier}
 use Rattle.vt_key.specs.declared.letter.Letter.{Letter}
 use Rattle.vt_key.specs.declared.letter.Mail.{Mail}
-use Rattle.vt_model.specs.Settings.{end_of}
-use Rattle.vt_steps.specs.Letters.{least_time}
-use Rattle.vt_lp.specs.Held.{HeldProcess}
-use Rattle.vt_contest.specs.Contest.{IsContestOf}
-use Rattle.vt_kernel.specs.Held.{HeldWorker}
+use Rattle.vt_model.specs.promise.Settings.{end_of}
+use Rattle.vt_steps.specs.promise.Letters.{least_time}
+use Rattle.vt_lp.specs.inside.Held.{HeldProcess}
+use Rattle.vt_contest.specs.inside.Contest.{IsContestOf}
+use Rattle.vt_kernel.specs.inside.Held.{HeldWorker}
 use Rattle.vt_kernel.proofs.ProcessLemmas.{same-ends}
-use Rattle.vt_kernel.specs.Guards.{held_letters}
+use Rattle.vt_kernel.specs.inside.Guards.{held_letters}
 use Rattle.vt_contest.proofs.LeastLemmas.{kept_letters}
 use Rattle.vt_kernel.proofs.TimeLemmas.{least_time-append}
 use Rattle.vt_kernel.proofs.kernel.Kernel.least.Goals as goal

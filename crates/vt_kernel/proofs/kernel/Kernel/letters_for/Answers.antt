@@ -2,20 +2,20 @@ use Rattle.std.proofs.Common.{◌≡◌, ◌<◌, ◌≤◌, ◌+◌, ◌++◌, 
 use Rattle.std.proofs.lemmas.Bool.Decides.{nat_tests}
 use Rattle.std.proofs.lemmas.List.Elements.{All-filter}
 use Rattle.std.specs.List.{filter}
-use Rattle.vt_key.specs.Times.{earlier}
+use Rattle.vt_key.specs.promise.Times.{earlier}
 use Rattle.vt_key.specs.declared.fault.Fault.{Fault}
 use Rattle.vt_key.specs.declared.fault.Fault.TheVariants.{NotLawful}
 use Rattle.vt_key.specs.declared.letter.Letter.{Letter}
 use Rattle.vt_key.specs.declared.limits.TheConstants.{MAX_COUNT}
 use Rattle.vt_model.specs.declared.settings.Config.{Config}
-use Rattle.vt_model.specs.Simulation.{simulation_of}
-use Rattle.vt_model.specs.Settings.{end_of}
-use Rattle.vt_steps.specs.Letters.{least_time, raised, count_of}
-use Rattle.vt_steps.specs.PartSteps.{letters_for, is_for}
-use Rattle.vt_lp.specs.Held.{AllWithinRun, IsWithinRun}
-use Rattle.vt_outbox.specs.Outbox.{HeldOutbox}
-use Rattle.vt_kernel.specs.Held.{HeldWorker, AllOwnMail, AreCounted}
-use Rattle.vt_kernel.specs.Guards.{mailed, IsSendRefusal}
+use Rattle.vt_model.specs.promise.Simulation.{simulation_of}
+use Rattle.vt_model.specs.promise.Settings.{end_of}
+use Rattle.vt_steps.specs.promise.Letters.{least_time, raised, count_of}
+use Rattle.vt_steps.specs.promise.PartSteps.{letters_for, is_for}
+use Rattle.vt_lp.specs.inside.Held.{AllWithinRun, IsWithinRun}
+use Rattle.vt_outbox.specs.inside.Outbox.{HeldOutbox}
+use Rattle.vt_kernel.specs.inside.Held.{HeldWorker, AllOwnMail, AreCounted}
+use Rattle.vt_kernel.specs.inside.Guards.{mailed, IsSendRefusal}
 use Rattle.vt_kernel.proofs.InsideLemmas.{inside-outbox}
 use Rattle.vt_outbox.proofs.OutboxLemmas.{receiver-below}
 use Rattle.vt_kernel.proofs.PartLemmas.{stands-send, mail-sent}

@@ -1,6 +1,6 @@
 use Rattle.std.proofs.Common.{not}
 use Rattle.std.specs.List.{filter}
-use Rattle.vt_steps.specs.PartSteps.{is_for}
+use Rattle.vt_steps.specs.promise.PartSteps.{is_for}
 use Rattle.vt_kernel.proofs.kernel.Kernel.letters_for.Given as goal
 
 abbrev pub ghost-take_for : goal.ghost-take_for

@@ -3,10 +3,10 @@ use Rattle.std.proofs.lemmas.Bool.Decides.{nat_tests}
 use Rattle.std.specs.List.{filter}
 use Rattle.vt_key.specs.declared.fault.Fault.TheVariants.{NotLawful, Exhausted}
 use Rattle.vt_model.specs.declared.settings.Config.{Config}
-use Rattle.vt_model.specs.Simulation.{simulation_of}
-use Rattle.vt_steps.specs.Letters.{count_of}
-use Rattle.vt_steps.specs.PartSteps.{letters_for, is_for}
-use Rattle.vt_kernel.specs.Held.{HeldWorker}
+use Rattle.vt_model.specs.promise.Simulation.{simulation_of}
+use Rattle.vt_steps.specs.promise.Letters.{count_of}
+use Rattle.vt_steps.specs.promise.PartSteps.{letters_for, is_for}
+use Rattle.vt_kernel.specs.inside.Held.{HeldWorker}
 use Rattle.vt_kernel.proofs.SendLemmas.{sent-after, refused-send, count_sent, may_send-yes}
 use Rattle.vt_kernel.proofs.kernel.Kernel.may_send.Goals as goal
 

@@ -1,11 +1,11 @@
 use Rattle.std.proofs.Common.{arith, ◌≡◌, ℕ, ◌+◌, ◌*◌, Some, None, subst}
-use Rattle.vt_model.specs.Simulation.{simulation_of}
-use Rattle.vt_steps.specs.World.{Part}
-use Rattle.vt_steps.specs.Cells.{local_step}
+use Rattle.vt_model.specs.promise.Simulation.{simulation_of}
+use Rattle.vt_steps.specs.promise.World.{Part}
+use Rattle.vt_steps.specs.inside.Cells.{local_step}
 use Rattle.vt_steps.specs.declared.step.Step.TheVariants as step
-use Rattle.vt_contest.specs.Entries.{entries_of, ready_of}
+use Rattle.vt_contest.specs.inside.Entries.{entries_of, ready_of}
 use Rattle.vt_contest.proofs.WinnerLemmas.{nobody-there}
-use Rattle.vt_kernel.specs.Held.{HeldWorker}
+use Rattle.vt_kernel.specs.inside.Held.{HeldWorker}
 use Rattle.vt_kernel.proofs.PartLemmas.{stands_along}
 use Rattle.vt_kernel.proofs.LocalLemmas.{view_of}
 use Rattle.vt_kernel.proofs.ChoosingLemmas.{NextIs, next-is}

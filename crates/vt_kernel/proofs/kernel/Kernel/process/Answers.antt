@@ -1,6 +1,6 @@
 use Rattle.std.proofs.Common.{◌≡◌, ◌∙◌, ◌+◌, ◌-◌, ◌<◌, ◌≤◌, ◌/◌, ◌%◌, length, IfSome, IfNone, arith, sym, subst}
 use Rattle.std.specs.Slice.{IsItemAt}
-use Rattle.vt_kernel.specs.Held.{HeldWorker, IsProcessOf}
+use Rattle.vt_kernel.specs.inside.Held.{HeldWorker, IsProcessOf}
 use Rattle.vt_kernel.proofs.PlaceLemmas.{process-below, found-below, missed-past, if_some, if_none}
 use Rattle.vt_kernel.proofs.ProcessLemmas.{place-known}
 use Rattle.vt_kernel.proofs.kernel.Kernel.process.Given.{Over}

@@ -1,12 +1,12 @@
 use Rattle.std.proofs.Common.{rules, ◌≡◌, ◌∙◌, ◌++◌, Some, length, slice_get, sym, ap, subst, arith}
 use Rattle.std.proofs.lemmas.List.{take_all}
-use Rattle.vt_model.specs.Simulation.{simulation_of}
-use Rattle.vt_steps.specs.PartSteps.{ripe_rows, rows_of_commit}
+use Rattle.vt_model.specs.promise.Simulation.{simulation_of}
+use Rattle.vt_steps.specs.promise.PartSteps.{ripe_rows, rows_of_commit}
 use Rattle.vt_steps.proofs.steps.CommitRows.{rows_of_processes}
-use Rattle.vt_lp.specs.Held.{HeldProcess}
-use Rattle.vt_contest.specs.Contest.{IsContestOf}
+use Rattle.vt_lp.specs.inside.Held.{HeldProcess}
+use Rattle.vt_contest.specs.inside.Contest.{IsContestOf}
 use Rattle.vt_contest.proofs.ContestLemmas.{marked-within, unmarked-past}
-use Rattle.vt_kernel.specs.Held.{HeldWorker, AreProcesses}
+use Rattle.vt_kernel.specs.inside.Held.{HeldWorker, AreProcesses}
 use Rattle.vt_kernel.proofs.CommitLemmas.{rows-next, rows-passed, same-length}
 use Rattle.vt_kernel.proofs.LocalLemmas.{index-get}
 use Rattle.vt_kernel.proofs.kernel.Kernel.rows.Goals as goal

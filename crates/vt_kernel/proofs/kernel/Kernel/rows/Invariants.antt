@@ -1,9 +1,9 @@
 use Rattle.std.proofs.Common.{◌≡◌, ◌≤◌, ◌-◌, length, take}
-use Rattle.vt_model.specs.Handler.{Handlers}
-use Rattle.vt_model.specs.Simulation.{simulation_of}
-use Rattle.vt_steps.specs.World.{Part}
+use Rattle.vt_model.specs.promise.Handler.{Handlers}
+use Rattle.vt_model.specs.promise.Simulation.{simulation_of}
+use Rattle.vt_steps.specs.promise.World.{Part}
 use Rattle.vt_steps.proofs.steps.CommitRows.{rows_of_processes}
-use Rattle.vt_kernel.specs.Held.{StandsFor}
+use Rattle.vt_kernel.specs.inside.Held.{StandsFor}
 use Rattle.vt_kernel.proofs.kernel.Kernel.rows.Given as goal
 
 abbrev pub invariant-loop-place : goal.invariant-loop-place

@@ -1,10 +1,10 @@
 use Rattle.std.proofs.Common.{rules, ◌≡◌, Some, slice_get, slice_set, List, sym, subst}
-use Rattle.vt_model.specs.Simulation.{simulation_of}
-use Rattle.vt_steps.specs.World.{Part}
-use Rattle.vt_lp.specs.Held.{HeldProcess}
-use Rattle.vt_outbox.specs.Outbox.{HeldOutbox}
-use Rattle.vt_kernel.specs.Held.{HeldWorker, IsWorkerInside, IsProcessOf, StandsFor}
-use Rattle.vt_kernel.specs.Guards.{SettlesTo}
+use Rattle.vt_model.specs.promise.Simulation.{simulation_of}
+use Rattle.vt_steps.specs.promise.World.{Part}
+use Rattle.vt_lp.specs.inside.Held.{HeldProcess}
+use Rattle.vt_outbox.specs.inside.Outbox.{HeldOutbox}
+use Rattle.vt_kernel.specs.inside.Held.{HeldWorker, IsWorkerInside, IsProcessOf, StandsFor}
+use Rattle.vt_kernel.specs.inside.Guards.{SettlesTo}
 use Rattle.vt_kernel.proofs.PartLemmas.{stands_along}
 use Rattle.vt_kernel.proofs.LocalLemmas.{view_of, place-within, written-same}
 use Rattle.vt_kernel.proofs.SettledWorker.{unknown-settled, settled-seen}

@@ -2,14 +2,14 @@ use Rattle.std.proofs.Common.{rules, ◌≡◌, ◌∙◌, Bool, true, false, If
 use Rattle.std.specs.List.{last_or}
 use Rattle.std.specs.Option.{option_map_or}
 use Rattle.std.proofs.lemmas.Result.{IfErr-weaker, IfOk-weaker}
-use Rattle.vt_model.specs.Simulation.{simulation_of}
-use Rattle.vt_steps.specs.ProcessSteps.{undo_process}
-use Rattle.vt_steps.specs.Cells.{local_step}
+use Rattle.vt_model.specs.promise.Simulation.{simulation_of}
+use Rattle.vt_steps.specs.promise.ProcessSteps.{undo_process}
+use Rattle.vt_steps.specs.inside.Cells.{local_step}
 use Rattle.vt_steps.specs.declared.step.Step.TheVariants as step
-use Rattle.vt_kernel.specs.Held.{HeldWorker, process_of}
-use Rattle.vt_kernel.specs.Guards.{IsDone, has_to_undo}
-use Rattle.vt_lp.specs.Held.{HeldProcess}
-use Rattle.vt_lp.specs.Past.{must_undo_last}
+use Rattle.vt_kernel.specs.inside.Held.{HeldWorker, process_of}
+use Rattle.vt_kernel.specs.inside.Guards.{IsDone, has_to_undo}
+use Rattle.vt_lp.specs.inside.Held.{HeldProcess}
+use Rattle.vt_lp.specs.inside.Past.{must_undo_last}
 use Rattle.vt_kernel.proofs.PartLemmas.{stands_along}
 use Rattle.vt_kernel.proofs.OwnSteps.{refused-at}
 use Rattle.vt_kernel.proofs.LocalLemmas.{view_of, place-within, unknown-refused, unknown-none, found-at, at-found-done, no-serial, own-process, other-process}

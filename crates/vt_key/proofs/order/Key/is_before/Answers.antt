@@ -1,6 +1,6 @@
 use Rattle.std.proofs.Common.{◌∙◌, sym, ap}
 use Rattle.std.specs.Prelude.{nat_lt}
-use Rattle.vt_key.specs.Keys.{Key}
+use Rattle.vt_key.specs.promise.Keys.{Key}
 use Rattle.vt_key.proofs.HeadLemmas.{before-of_one_head, before-by_head}
 use Rattle.vt_key.proofs.order.Key.is_before.Goals as goal
 

@@ -1,6 +1,6 @@
 use Rattle.std.proofs.Common.{◌∙◌, sym, ap}
 use Rattle.std.specs.Ordering.{nat_cmp}
-use Rattle.vt_key.specs.Keys.{Key}
+use Rattle.vt_key.specs.promise.Keys.{Key}
 use Rattle.vt_key.proofs.HeadLemmas.{cmp-of_one_head, cmp-by_head}
 use Rattle.vt_key.proofs.order.KeyOrd.cmp.Goals as goal
 

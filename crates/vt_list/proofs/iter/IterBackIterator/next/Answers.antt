@@ -1,6 +1,6 @@
 use Rattle.std.proofs.Common.{rules, reverse, sym, ap, ◌∙◌, subst}
 use Rattle.std_collections.specs.Map.Iter.{TakesFirst, deref}
-use Rattle.vt_nodes.specs.Linked.{items}
+use Rattle.vt_nodes.specs.inside.Linked.{items}
 use Rattle.vt_nodes.proofs.Links.{place-last, no-last, without-last}
 use Rattle.vt_list.proofs.iter.IterBackIterator.next.Goals as goal
 

@@ -1,6 +1,6 @@
 use Rattle.std.proofs.Common.{◌≡◌, find, ap, sym, ◌∙◌}
 use Rattle.std.specs.Option.{option_map}
-use Rattle.vt_key.specs.Queues.{without_first}
+use Rattle.vt_key.specs.promise.Queues.{without_first}
 use Rattle.vt_list.proofs.Firsts.{taken-first}
 use Rattle.vt_list.proofs.line.Line.remove_first.Given.{Over}
 use Rattle.vt_list.proofs.line.Line.remove_first.Goals.{After-put}

@@ -1,6 +1,6 @@
 use Rattle.std.proofs.Common.{◌++◌, [], ◌∷◌, ap, ◌∙◌}
-use Rattle.vt_key.specs.Queues.{insert_ordered}
-use Rattle.vt_key.specs.Order.{rank_before}
+use Rattle.vt_key.specs.promise.Queues.{insert_ordered}
+use Rattle.vt_key.specs.promise.Order.{rank_before}
 use Rattle.vt_list.proofs.Firsts.{insert-between}
 use Rattle.vt_list.proofs.list.List.insert_ordered.Goals as goal
 

@@ -1,8 +1,8 @@
 use Rattle.std.proofs.Common.{sym, ◌∙◌, ap, subst}
 use Rattle.std.specs.List.{filter}
-use Rattle.vt_logs.specs.Events.{HeldLog, is_above, AreInOrder}
-use Rattle.vt_logs.specs.Shelves.{placed_events}
-use Rattle.vt_logs.specs.Chains.{AreChained}
+use Rattle.vt_logs.specs.inside.Events.{HeldLog, is_above, AreInOrder}
+use Rattle.vt_logs.specs.inside.Shelves.{placed_events}
+use Rattle.vt_logs.specs.inside.Chains.{AreChained}
 use Rattle.vt_logs.proofs.ShelfLemmas.{filter-map}
 use Rattle.vt_logs.proofs.ChainLemmas.{chained-stays}
 use Rattle.vt_logs.proofs.log.Log.forget.Goals as goal

@@ -1,8 +1,8 @@
 use Rattle.std.proofs.Common.{◌≡◌, ◌<◌, [], Some, None, MatchOption, sym, subst}
 use Rattle.std.specs.List.{filter}
 use Rattle.std.proofs.lemmas.List.{get_or_read}
-use Rattle.vt_logs.specs.Events.{HeldLog, last_of}
-use Rattle.vt_logs.specs.Chains.{IsChain, is_placed_of, anywhere}
+use Rattle.vt_logs.specs.inside.Events.{HeldLog, last_of}
+use Rattle.vt_logs.specs.inside.Chains.{IsChain, is_placed_of, anywhere}
 use Rattle.vt_logs.proofs.ChainLemmas.{none-there, other-there, own-last, last-none, last-some, alone-has, sends-none, differ, agree}
 use Rattle.vt_logs.proofs.log.Log.last_sends.Goals as goal
 

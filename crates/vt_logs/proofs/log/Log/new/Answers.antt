@@ -1,7 +1,7 @@
 use Rattle.std.proofs.Common.{get_or, refl, sym, ap, subst}
 use Rattle.std.specs.List.{filter}
-use Rattle.vt_logs.specs.Shelves.{Shelved}
-use Rattle.vt_logs.specs.Chains.{IsChain, is_placed_of, anywhere}
+use Rattle.vt_logs.specs.inside.Shelves.{Shelved}
+use Rattle.vt_logs.specs.inside.Chains.{IsChain, is_placed_of, anywhere}
 use Rattle.vt_logs.proofs.log.Log.new.Goals as goal
 
 pub invariant_of-result : goal.invariant_of-result

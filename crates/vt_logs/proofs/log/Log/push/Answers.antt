@@ -1,9 +1,9 @@
 use Rattle.std.proofs.Common.{◌<◌, [], ◌∷◌, ◌++◌, slice_set, refl, sym, ◌∙◌, ap, subst}
 use Rattle.std.proofs.lemmas.List.{get_or_read, length-set, map-append}
-use Rattle.vt_logs.specs.Events.{HeldLog, Logged}
-use Rattle.vt_logs.specs.Sheets.{noted_event}
-use Rattle.vt_logs.specs.Shelves.{placed_events}
-use Rattle.vt_logs.specs.Chains.{AreChained, anywhere}
+use Rattle.vt_logs.specs.inside.Events.{HeldLog, Logged}
+use Rattle.vt_logs.specs.inside.Sheets.{noted_event}
+use Rattle.vt_logs.specs.inside.Shelves.{placed_events}
+use Rattle.vt_logs.specs.inside.Chains.{AreChained, anywhere}
 use Rattle.vt_logs.proofs.ChainLemmas.{chained-push}
 use Rattle.vt_logs.proofs.log.Log.push.Goals as goal
 

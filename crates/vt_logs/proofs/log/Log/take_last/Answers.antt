@@ -2,9 +2,9 @@ use Rattle.std.proofs.Common.{◌≡◌, ◌<◌, Some, None, slice_set, refl, s
 use Rattle.std.specs.List.{filter}
 use Rattle.std.specs.Option.{option_map}
 use Rattle.std.proofs.lemmas.List.{get_or_read, length-set}
-use Rattle.vt_logs.specs.Events.{HeldLog, Logged, last_of, without_last}
-use Rattle.vt_logs.specs.Shelves.{placed_events}
-use Rattle.vt_logs.specs.Chains.{AreChained, IsChain, is_placed_of, anywhere}
+use Rattle.vt_logs.specs.inside.Events.{HeldLog, Logged, last_of, without_last}
+use Rattle.vt_logs.specs.inside.Shelves.{placed_events}
+use Rattle.vt_logs.specs.inside.Chains.{AreChained, IsChain, is_placed_of, anywhere}
 use Rattle.vt_logs.proofs.ChainLemmas.{none-there, other-there, own-back, own-last, last-none, last-some, without-none, without-own, chained-pop, differ, agree}
 use Rattle.vt_logs.proofs.log.Log.take_last.Goals as goal
 

@@ -1,8 +1,8 @@
 use Rattle.std.proofs.Common.{◌++◌, ◌+◌, ◌≤◌, length, sym, ◌∙◌, ap, subst, append-nil}
 use Rattle.std.specs.List.{AllByRecursion, flat_map}
 use Rattle.vt_model.specs.declared.limits.TheConstants.{MAX_RECORDS}
-use Rattle.vt_logs.specs.Events.{rows_below}
-use Rattle.vt_logs.specs.Sheets.{Page, events_in, slot_rows}
+use Rattle.vt_logs.specs.inside.Events.{rows_below}
+use Rattle.vt_logs.specs.inside.Sheets.{Page, events_in, slot_rows}
 use Rattle.vt_logs.proofs.LaidLemmas.{laid-fits}
 use Rattle.vt_logs.proofs.SheetLemmas.{ge-is, if_ok-then, rows-live, rows-none}
 use Rattle.vt_logs.proofs.sheet.Sheet.append_rows.Goals as goal

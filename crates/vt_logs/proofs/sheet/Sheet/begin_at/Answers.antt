@@ -1,6 +1,6 @@
 use Rattle.std.proofs.Common.{◌≡◌, true, false, sym, subst}
 use Rattle.std.specs.List.{AllByRecursion}
-use Rattle.vt_logs.specs.Sheets.{Page, stays}
+use Rattle.vt_logs.specs.inside.Sheets.{Page, stays}
 use Rattle.vt_logs.proofs.SheetLemmas.{dated-staying}
 use Rattle.vt_logs.proofs.sheet.Sheet.begin_at.Goals as goal
 

@@ -1,7 +1,7 @@
 use Rattle.std.proofs.Common.{◌≡◌, true, false, sym, ◌∙◌, ap, subst}
 use Rattle.std.specs.List.{filter, AllByRecursion}
 use Rattle.vt_key.proofs.ListLemmas.{filter-passes}
-use Rattle.vt_logs.specs.Sheets.{Page, stays}
+use Rattle.vt_logs.specs.inside.Sheets.{Page, stays}
 use Rattle.vt_logs.proofs.SheetLemmas.{all-stay, none-stay, lt-so, lt-not}
 use Rattle.vt_logs.proofs.sheet.Sheet.forget.Goals as goal
 

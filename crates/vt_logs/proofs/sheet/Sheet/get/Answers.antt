@@ -1,7 +1,7 @@
 use Rattle.std.proofs.Common.{◌≡◌, ◌≤◌, length, true, false, Some, None, slice_get, refl, sym, ◌∙◌, ap, subst}
 use Rattle.std.proofs.lemmas.Bool.{ltb-true}
 use Rattle.std.proofs.lemmas.Option.{slice_get_read, slice_get_past}
-use Rattle.vt_logs.specs.Sheets.{Page, NonePasses, PassesAlone, is_at}
+use Rattle.vt_logs.specs.inside.Sheets.{Page, NonePasses, PassesAlone, is_at}
 use Rattle.vt_logs.proofs.SheetLemmas.{note, live-none, live-alone, sent-there}
 use Rattle.vt_logs.proofs.sheet.Sheet.get.Goals as goal
 

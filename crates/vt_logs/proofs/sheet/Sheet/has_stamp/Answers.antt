@@ -1,7 +1,7 @@
 use Rattle.std.proofs.Common.{◌∙◌, ap}
 use Rattle.std.specs.List.{list_any}
-use Rattle.vt_logs.specs.Events.{is_stamped}
-use Rattle.vt_logs.specs.Sheets.{Page, events_in, has_slot_stamp}
+use Rattle.vt_logs.specs.inside.Events.{is_stamped}
+use Rattle.vt_logs.specs.inside.Sheets.{Page, events_in, has_slot_stamp}
 use Rattle.vt_logs.proofs.SheetLemmas.{any-live}
 use Rattle.vt_logs.proofs.sheet.Sheet.has_stamp.Goals as goal
 

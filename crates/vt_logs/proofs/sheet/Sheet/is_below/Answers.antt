@@ -1,5 +1,5 @@
 use Rattle.std.proofs.Common.{not, sym, ◌∙◌, ap}
-use Rattle.vt_key.specs.Times.{time_before}
+use Rattle.vt_key.specs.promise.Times.{time_before}
 use Rattle.vt_logs.proofs.PresentLemmas.{alone-all, none-all, lt-is}
 use Rattle.vt_logs.proofs.sheet.Sheet.is_below.Goals as goal
 

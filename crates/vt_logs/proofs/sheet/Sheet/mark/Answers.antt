@@ -1,7 +1,7 @@
 use Rattle.std.proofs.Common.{◌≡◌, ◌≤◌, length, true, false, Some, None, refl, sym, ◌∙◌, ap, subst}
 use Rattle.std.specs.List.{filter}
 use Rattle.std.proofs.lemmas.Option.{slice_get_read, slice_get_past}
-use Rattle.vt_logs.specs.Sheets.{Page, IsSheet, live_in, is_elsewhere}
+use Rattle.vt_logs.specs.inside.Sheets.{Page, IsSheet, live_in, is_elsewhere}
 use Rattle.vt_logs.proofs.PresentLemmas.{none-filter, set-same, not-within}
 use Rattle.vt_logs.proofs.SheetLemmas.{live-none, live-marked, marked-needs, sheet-marked}
 use Rattle.vt_logs.proofs.sheet.Sheet.mark.Goals as goal

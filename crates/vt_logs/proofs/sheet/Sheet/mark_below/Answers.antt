@@ -1,6 +1,6 @@
 use Rattle.std.proofs.Common.{◌≡◌, ◌<◌, ◌≤◌, true, false, length, refl, ◌∙◌, ap, subst}
 use Rattle.std.specs.List.{filter, AllByRecursion}
-use Rattle.vt_logs.specs.Sheets.{Page, is_at, is_elsewhere, stays}
+use Rattle.vt_logs.specs.inside.Sheets.{Page, is_at, is_elsewhere, stays}
 use Rattle.vt_logs.proofs.PresentLemmas.{stays-none, stays-more, stays-all}
 use Rattle.vt_logs.proofs.SheetLemmas.{live-high}
 use Rattle.vt_logs.proofs.sheet.Sheet.mark_below.Goals.{then-is_below, else-is_below}

@@ -1,6 +1,6 @@
 use Rattle.std.proofs.Common.{◌≡◌, false}
 use Rattle.std.specs.List.{filter}
-use Rattle.vt_logs.specs.Sheets.{stays}
+use Rattle.vt_logs.specs.inside.Sheets.{stays}
 use Rattle.vt_logs.proofs.PresentLemmas.{stays_below}
 use Rattle.vt_logs.proofs.sheet.Sheet.mark_below.Given as goal
 

@@ -3,7 +3,7 @@ use Rattle.std.proofs.lemmas.Bool.{ltb-true}
 use Rattle.std.proofs.lemmas.Option.{slice_get_read, slice_get_past}
 use Rattle.std.specs.List.{AllByRecursion}
 use Rattle.vt_key.proofs.ListLemmas.{every-get}
-use Rattle.vt_logs.specs.Sheets.{Page, is_at, NonePasses, range_of}
+use Rattle.vt_logs.specs.inside.Sheets.{Page, is_at, NonePasses, range_of}
 use Rattle.vt_logs.proofs.PresentLemmas.{alone-all, alone-none, none-all}
 use Rattle.vt_logs.proofs.LaidLemmas.{laid-fits}
 use Rattle.vt_logs.proofs.SheetLemmas.{live-none, live-alone}

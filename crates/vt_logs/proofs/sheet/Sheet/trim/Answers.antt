@@ -1,5 +1,5 @@
 use Rattle.std.proofs.Common.{refl, sym, ◌∙◌, subst}
-use Rattle.vt_logs.specs.Sheets.{IsSheet, live_in}
+use Rattle.vt_logs.specs.inside.Sheets.{IsSheet, live_in}
 use Rattle.vt_logs.proofs.SheetLemmas.{live-dropped, sheet-dropped, sheet-along}
 use Rattle.vt_logs.proofs.sheet.Sheet.trim.Goals as goal
 

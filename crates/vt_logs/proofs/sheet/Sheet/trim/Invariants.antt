@@ -1,5 +1,5 @@
 use Rattle.std.proofs.Common.{◌≡◌, false, length}
-use Rattle.vt_logs.specs.Sheets.{IsSheet, live_in}
+use Rattle.vt_logs.specs.inside.Sheets.{IsSheet, live_in}
 use Rattle.vt_logs.proofs.sheet.Sheet.trim.Given as goal
 
 abbrev pub invariant-loop-slot : goal.invariant-loop-slot

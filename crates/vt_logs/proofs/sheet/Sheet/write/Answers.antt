@@ -1,6 +1,6 @@
 use Rattle.std.proofs.Common.{◌≡◌, ◌≤◌, [], ◌∷◌, ◌++◌, length, true, false, refl, sym, ◌∙◌, ap, subst}
 use Rattle.vt_logs.specs.declared.slot.Slot.{Slot}
-use Rattle.vt_logs.specs.Sheets.{Page, live_in, noted_event}
+use Rattle.vt_logs.specs.inside.Sheets.{Page, live_in, noted_event}
 use Rattle.vt_logs.proofs.SheetLemmas.{live-written, sheet-written, sheet-along, dated-wider, earlier-both, fits-short, fits-behind}
 use Rattle.vt_logs.proofs.sheet.Sheet.write.Goals as goal
 

@@ -1,7 +1,7 @@
 use Rattle.std.proofs.Common.{ℕ, [], ◌∷◌, ◌++◌, length, ◌∙◌, ap}
 use Rattle.std.proofs.lemmas.List.{length_push, get_or_past}
-use Rattle.vt_logs.specs.Sheets.{Page}
-use Rattle.vt_logs.specs.Shelves.{Shelved, placed_on, blank_page}
+use Rattle.vt_logs.specs.inside.Sheets.{Page}
+use Rattle.vt_logs.specs.inside.Shelves.{Shelved, placed_on, blank_page}
 use Rattle.vt_logs.proofs.ShelfLemmas.{page-more, known-added, apart-added, shelf-begun, placed-begun, shelf-along, shelf-named, itself}
 use Rattle.vt_logs.proofs.shelf.Shelf.add.Goals as goal
 

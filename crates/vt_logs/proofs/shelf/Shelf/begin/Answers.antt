@@ -1,7 +1,7 @@
 use Rattle.std.proofs.Common.{◌<◌, [], ◌∷◌, ◌++◌, slice_set, refl, sym, ◌∙◌, ap, subst}
 use Rattle.std.proofs.lemmas.List.{length-set}
-use Rattle.vt_logs.specs.Sheets.{Page}
-use Rattle.vt_logs.specs.Shelves.{Shelved, placed_on}
+use Rattle.vt_logs.specs.inside.Sheets.{Page}
+use Rattle.vt_logs.specs.inside.Shelves.{Shelved, placed_on}
 use Rattle.vt_logs.proofs.ShelfLemmas.{live-kept, page-same, spare-known, spare-empty, known-begun, apart-begun, shelf-begun, placed-begun, shelf-along}
 use Rattle.vt_logs.proofs.shelf.Shelf.begin.Goals as goal
 

@@ -1,7 +1,7 @@
 use Rattle.std.proofs.Common.{◌<◌, ◌≤◌, false, sym, ◌∙◌, ap, subst}
 use Rattle.std.specs.List.{filter}
-use Rattle.vt_logs.specs.Sheets.{Page, PassesAlone, is_elsewhere}
-use Rattle.vt_logs.specs.Shelves.{Shelved, lies_at, lies_elsewhere, placed_nodes}
+use Rattle.vt_logs.specs.inside.Sheets.{Page, PassesAlone, is_elsewhere}
+use Rattle.vt_logs.specs.inside.Shelves.{Shelved, lies_at, lies_elsewhere, placed_nodes}
 use Rattle.vt_logs.proofs.PresentLemmas.{alone-sum}
 use Rattle.vt_logs.proofs.ShelfLemmas.{less-by, left-by, page-read, place-known, filtered-out, placed-filtered, shelf-filtered}
 use Rattle.vt_logs.proofs.shelf.Shelf.drop_at.Goals as goal

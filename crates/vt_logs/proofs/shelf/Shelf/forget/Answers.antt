@@ -2,8 +2,8 @@ use Rattle.std.proofs.Common.{◌≡◌, ◌<◌, ◌∷◌, ◌%◌, ◌^◌, l
 use Rattle.std.specs.List.{filter, flat_map, sum_by, AllByRecursion}
 use Rattle.std.proofs.lemmas.List.{length-map, with_items_is}
 use Rattle.vt_key.proofs.ListLemmas.{every-left, every-weaker}
-use Rattle.vt_logs.specs.Sheets.{Page, nodes_at}
-use Rattle.vt_logs.specs.Shelves.{Shelved, placed_nodes, placed_of, placed_on, placed_stays, page_below}
+use Rattle.vt_logs.specs.inside.Sheets.{Page, nodes_at}
+use Rattle.vt_logs.specs.inside.Shelves.{Shelved, placed_nodes, placed_of, placed_on, placed_stays, page_below}
 use Rattle.vt_logs.proofs.ShelfLemmas.{current-known, lt-along, page-read, placed-filtered, filtered-below, shelf-filtered, shelf-along, forget-needs}
 use Rattle.vt_logs.proofs.shelf.Shelf.forget.Goals as goal
 

@@ -1,8 +1,8 @@
 use Rattle.std.proofs.Common.{◌≡◌, ◌≤◌, ◌<◌, length, get_or, sym, subst}
 use Rattle.std.proofs.lemmas.Bool.{ltb-true}
 use Rattle.std.proofs.lemmas.List.{get_or_past}
-use Rattle.vt_logs.specs.Sheets.{Page, NonePasses, PassesAlone, is_at}
-use Rattle.vt_logs.specs.Shelves.{Shelved, lies_at, blank_page}
+use Rattle.vt_logs.specs.inside.Sheets.{Page, NonePasses, PassesAlone, is_at}
+use Rattle.vt_logs.specs.inside.Shelves.{Shelved, lies_at, blank_page}
 use Rattle.vt_logs.proofs.ShelfLemmas.{match-then, page-read, none-placed, alone-placed}
 use Rattle.vt_logs.proofs.shelf.Shelf.get.Goals as goal
 

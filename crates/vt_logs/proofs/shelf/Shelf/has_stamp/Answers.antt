@@ -1,9 +1,9 @@
 use Rattle.std.proofs.Common.{◌<◌, ◌∷◌, length, sym, ◌∙◌, ap, subst}
 use Rattle.std.specs.List.{list_any, AllByRecursion}
 use Rattle.vt_key.proofs.ListLemmas.{every-left}
-use Rattle.vt_logs.specs.Events.{is_stamped}
-use Rattle.vt_logs.specs.Sheets.{Page, events_in}
-use Rattle.vt_logs.specs.Shelves.{Shelved, page_has_stamp, placed_events}
+use Rattle.vt_logs.specs.inside.Events.{is_stamped}
+use Rattle.vt_logs.specs.inside.Sheets.{Page, events_in}
+use Rattle.vt_logs.specs.inside.Shelves.{Shelved, page_has_stamp, placed_events}
 use Rattle.vt_logs.proofs.ShelfLemmas.{current-known, page-read, stamps-total, either-true, either-false}
 use Rattle.vt_logs.proofs.shelf.Shelf.has_stamp.Goals as goal
 

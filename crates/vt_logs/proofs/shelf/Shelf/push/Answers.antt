@@ -1,7 +1,7 @@
 use Rattle.std.proofs.Common.{◌≤◌, [], ◌∷◌, ◌++◌, false, refl, sym, ◌∙◌, ap, subst}
 use Rattle.std.specs.List.{sum_by}
-use Rattle.vt_logs.specs.Sheets.{Page, nodes_at, noted_event}
-use Rattle.vt_logs.specs.Shelves.{Shelved}
+use Rattle.vt_logs.specs.inside.Sheets.{Page, nodes_at, noted_event}
+use Rattle.vt_logs.specs.inside.Shelves.{Shelved}
 use Rattle.vt_logs.proofs.ShelfLemmas.{placed-written, shelf-written, current-known, nodes-here, page-read, le-trans, still-small}
 use Rattle.vt_logs.proofs.shelf.Shelf.push.Goals as goal
 

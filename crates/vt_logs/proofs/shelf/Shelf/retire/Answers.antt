@@ -1,7 +1,7 @@
 use Rattle.std.proofs.Common.{◌<◌, ◌≤◌, ◌+◌, ◌∷◌, eqb, length, sym, ◌∙◌, ap, subst}
 use Rattle.std.specs.List.{filter, count_by, AllByRecursion}
 use Rattle.vt_key.proofs.ListLemmas.{every-left, every-right}
-use Rattle.vt_logs.specs.Shelves.{has_room_on, is_used, is_unused}
+use Rattle.vt_logs.specs.inside.Shelves.{has_room_on, is_used, is_unused}
 use Rattle.vt_logs.proofs.ShelfLemmas.{placed-retired, shelf-retired}
 use Rattle.vt_logs.proofs.shelf.Shelf.retire.Goals as goal
 

@@ -1,9 +1,9 @@
 use Rattle.std.proofs.Common.{◌<◌, ◌∷◌, ◌++◌, length, sym, ◌∙◌, ap, subst}
 use Rattle.std.specs.List.{flat_map, AllByRecursion}
 use Rattle.vt_key.proofs.ListLemmas.{every-left}
-use Rattle.vt_logs.specs.Events.{rows_below}
-use Rattle.vt_logs.specs.Sheets.{events_in}
-use Rattle.vt_logs.specs.Shelves.{Shelved, page_rows, placed_events}
+use Rattle.vt_logs.specs.inside.Events.{rows_below}
+use Rattle.vt_logs.specs.inside.Sheets.{events_in}
+use Rattle.vt_logs.specs.inside.Shelves.{Shelved, page_rows, placed_events}
 use Rattle.vt_logs.proofs.ShelfLemmas.{current-known, page-read, rows-total}
 use Rattle.vt_logs.proofs.shelf.Shelf.rows.Goals as goal
 

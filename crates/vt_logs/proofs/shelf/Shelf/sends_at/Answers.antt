@@ -2,8 +2,8 @@ use Rattle.std.proofs.Common.{◌≡◌, ◌≤◌, ◌<◌, [], true, length, g
 use Rattle.std.proofs.lemmas.Bool.{ltb-true}
 use Rattle.std.proofs.lemmas.List.{get_or_past}
 use Rattle.std.specs.List.{AllByRecursion}
-use Rattle.vt_logs.specs.Sheets.{Page, is_at}
-use Rattle.vt_logs.specs.Shelves.{Shelved, lies_at, blank_page}
+use Rattle.vt_logs.specs.inside.Sheets.{Page, is_at}
+use Rattle.vt_logs.specs.inside.Shelves.{Shelved, lies_at, blank_page}
 use Rattle.vt_logs.proofs.ShelfLemmas.{page-read, all-placed}
 use Rattle.vt_logs.proofs.shelf.Shelf.sends_at.Goals as goal
 

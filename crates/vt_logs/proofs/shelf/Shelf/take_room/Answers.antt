@@ -1,8 +1,8 @@
 use Rattle.std.proofs.Common.{◌<◌, sym, ◌∙◌, ap, subst}
 use Rattle.std.proofs.lemmas.List.{length-set}
 use Rattle.std.specs.List.{sum_by}
-use Rattle.vt_logs.specs.Sheets.{Page}
-use Rattle.vt_logs.specs.Shelves.{Shelved, placed_nodes}
+use Rattle.vt_logs.specs.inside.Sheets.{Page}
+use Rattle.vt_logs.specs.inside.Shelves.{Shelved, placed_nodes}
 use Rattle.vt_logs.proofs.ShelfLemmas.{current-known, page-read, live-kept, placed-kept, shelf-kept, page-same, few-by}
 use Rattle.vt_logs.proofs.SheetLemmas.{if_ok-then}
 use Rattle.vt_logs.proofs.shelf.Shelf.take_room.Goals as goal

@@ -1,6 +1,6 @@
 use Rattle.std.proofs.Common.{◌≡◌, ℕ, ◌∙◌, Bool, true, false, not, refl, ap, sym, subst}
-use Rattle.vt_model.specs.Sends.{Outgoing}
-use Rattle.vt_lookup.specs.Undoing.{event_gives, state_undone}
+use Rattle.vt_model.specs.inside.Sends.{Outgoing}
+use Rattle.vt_lookup.specs.inside.Undoing.{event_gives, state_undone}
 use Rattle.vt_lookup.proofs.pair.Pair.look_at.Goals as goal
 
 pub execute-left-requires-send-M-Payload : goal.execute-left-requires-send-M-Payload

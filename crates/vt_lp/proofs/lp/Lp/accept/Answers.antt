@@ -1,16 +1,16 @@
 use Rattle.std.proofs.Common.{◌≡◌, ◌∙◌, ◌||◌, Bool, [], true, false, List, Ok, Err, ap, refl, sym, subst}
 use Rattle.std.specs.List.{list_any}
-use Rattle.vt_key.specs.Order.{rank_same}
+use Rattle.vt_key.specs.promise.Order.{rank_same}
 use Rattle.vt_key.specs.declared.letter.Letter.{Letter}
 use Rattle.vt_key.specs.declared.letter.Sign.{Sign}
 use Rattle.vt_key.specs.declared.letter.Sign.TheVariants.{Plus, Minus}
-use Rattle.vt_key.specs.Times.{TimeBefore}
-use Rattle.vt_key.specs.Queues.{has_rank}
-use Rattle.vt_model.specs.Settings.{end_of}
-use Rattle.vt_steps.specs.ProcessSteps.{accept_process}
+use Rattle.vt_key.specs.promise.Times.{TimeBefore}
+use Rattle.vt_key.specs.promise.Queues.{has_rank}
+use Rattle.vt_model.specs.promise.Settings.{end_of}
+use Rattle.vt_steps.specs.promise.ProcessSteps.{accept_process}
 use Rattle.vt_past.specs.declared.event.PastEvent.{PastEvent}
-use Rattle.vt_lp.specs.Held.{HeldProcess, StandsFor, IsProcessInside}
-use Rattle.vt_lp.specs.Guards.{IsDone, holds_letter, would_lead, TellsSame}
+use Rattle.vt_lp.specs.inside.Held.{HeldProcess, StandsFor, IsProcessInside}
+use Rattle.vt_lp.specs.inside.Guards.{IsDone, holds_letter, would_lead, TellsSame}
 use Rattle.vt_lp.proofs.AcceptLemmas.{either, ok-is, err-is, accept-none, accepts-message, accepts-anti_message, inside-message, inside-anti_message, message-behind, anti_message-behind}
 use Rattle.vt_lp.proofs.ProcessView.{process_view}
 use Rattle.vt_lp.proofs.lp.Lp.accept.Goals.{in-Plus, in-Plus-2, in-Minus}

@@ -1,6 +1,6 @@
 use Rattle.std.proofs.Common.{◌≡◌, ◌∙◌, true, false, length, suc, ap, sym, subst}
-use Rattle.vt_steps.specs.ProcessSteps.{can_annihilate}
-use Rattle.vt_lp.specs.Held.{HeldProcess, StandsFor}
+use Rattle.vt_steps.specs.promise.ProcessSteps.{can_annihilate}
+use Rattle.vt_lp.specs.inside.Held.{HeldProcess, StandsFor}
 use Rattle.vt_lp.proofs.CancelLemmas.{cancel-none, cancels, inside-cancelled, fewer-both, taken-both, two-more}
 use Rattle.vt_lp.proofs.ProcessView.{process_view}
 use Rattle.vt_lp.proofs.lp.Lp.cancel_into.Goals as goal

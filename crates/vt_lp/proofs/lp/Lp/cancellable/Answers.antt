@@ -1,10 +1,10 @@
 use Rattle.std.proofs.Common.{◌≡◌, ◌∙◌, None, Some, true, ap, sym}
 use Rattle.std.specs.Prelude.{find}
 use Rattle.std.specs.Option.{option_copied}
-use Rattle.vt_steps.specs.ProcessSteps.{can_annihilate}
+use Rattle.vt_steps.specs.promise.ProcessSteps.{can_annihilate}
 use Rattle.vt_key.specs.declared.letter.Letter.{Letter}
 use Rattle.vt_key.proofs.ListLemmas.{find-passes}
-use Rattle.vt_lp.specs.Held.{HeldProcess}
+use Rattle.vt_lp.specs.inside.Held.{HeldProcess}
 use Rattle.vt_lp.proofs.CancelLemmas.{none-annihilate, IfNone-of}
 use Rattle.vt_lp.proofs.lp.Lp.cancellable.Goals as goal
 

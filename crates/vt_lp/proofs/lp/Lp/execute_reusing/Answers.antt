@@ -5,22 +5,22 @@ use Rattle.vt_key.specs.declared.limits.TheConstants.{MAX_COUNT}
 use Rattle.vt_key.specs.declared.fault.Fault.TheVariants.{NotLawful, Exhausted, Memory}
 use Rattle.vt_key.specs.declared.letter.Letter.{Letter}
 use Rattle.vt_key.specs.declared.letter.Sign.TheVariants.{Plus, Minus}
-use Rattle.vt_stream.specs.Words.{Stream}
+use Rattle.vt_stream.specs.inside.Words.{Stream}
 use Rattle.vt_model.specs.declared.rows.Record.{Record}
 use Rattle.vt_model.specs.declared.sending.Sent.{Sent}
-use Rattle.vt_model.specs.Process.{triple_at}
-use Rattle.vt_model.specs.Simulation.{Triple, simulation_of}
+use Rattle.vt_model.specs.inside.Process.{triple_at}
+use Rattle.vt_model.specs.promise.Simulation.{Triple, simulation_of}
 use Rattle.vt_model.proofs.LawLemmas.{after_state}
-use Rattle.vt_model.specs.Settings.{end_of}
-use Rattle.vt_steps.specs.Letters.{unstamped, stamped, signed}
-use Rattle.vt_steps.specs.World.{entry_events}
-use Rattle.vt_steps.specs.ProcessSteps.{execute_process}
+use Rattle.vt_model.specs.promise.Settings.{end_of}
+use Rattle.vt_steps.specs.promise.Letters.{unstamped, stamped, signed}
+use Rattle.vt_steps.specs.promise.World.{entry_events}
+use Rattle.vt_steps.specs.promise.ProcessSteps.{execute_process}
 use Rattle.vt_steps.proofs.steps.MemoryLemmas.{is_where}
-use Rattle.vt_lp.specs.Held.{HeldProcess, StandsFor, AllWithinRun, IsWithinRun, IsOwnLetter, process_memory}
-use Rattle.vt_lp.specs.Guards.{IsDone, IsExecuteRefusal}
-use Rattle.vt_past.specs.Events.{past_event}
-use Rattle.vt_past.specs.Kept.{KeptNodes, GaveEvent}
-use Rattle.vt_lp.specs.Used.{count_sends, after_letters, IsLeft}
+use Rattle.vt_lp.specs.inside.Held.{HeldProcess, StandsFor, AllWithinRun, IsWithinRun, IsOwnLetter, process_memory}
+use Rattle.vt_lp.specs.inside.Guards.{IsDone, IsExecuteRefusal}
+use Rattle.vt_past.specs.inside.Events.{past_event}
+use Rattle.vt_past.specs.inside.Kept.{KeptNodes, GaveEvent}
+use Rattle.vt_lp.specs.inside.Used.{count_sends, after_letters, IsLeft}
 use Rattle.vt_model.proofs.Sizes.{out_fits}
 use Rattle.vt_lp.proofs.Advancing.{place-back}
 use Rattle.vt_lp.proofs.Stamping.{length-letters}

@@ -1,5 +1,5 @@
 use Rattle.std.proofs.Common.{sym, subst}
-use Rattle.vt_lp.specs.Held.{HeldProcess, StandsFor}
+use Rattle.vt_lp.specs.inside.Held.{HeldProcess, StandsFor}
 use Rattle.vt_lp.proofs.RipeLemmas.{inside-committed, commits}
 use Rattle.vt_lp.proofs.ProcessView.{process_view}
 use Rattle.vt_lp.proofs.lp.Lp.fossil_into.Goals as goal

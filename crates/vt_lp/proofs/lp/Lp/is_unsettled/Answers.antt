@@ -1,8 +1,8 @@
 use Rattle.std.proofs.Common.{◌≡◌, ◌∙◌, Bool, true, false, not, IsFalse, None, slice_get, refl, sym, ap, subst}
 use Rattle.std.specs.List.{last_or}
-use Rattle.vt_key.specs.Queues.{IsRising}
-use Rattle.vt_lp.specs.Held.{HeldProcess}
-use Rattle.vt_lp.specs.Guards.{may_come_after}
+use Rattle.vt_key.specs.inside.Queues.{IsRising}
+use Rattle.vt_lp.specs.inside.Held.{HeldProcess}
+use Rattle.vt_lp.specs.inside.Guards.{may_come_after}
 use Rattle.vt_lp.proofs.SettledLemmas.{nothing-to-settle}
 use Rattle.vt_lp.proofs.lp.Lp.is_unsettled.Goals as goal
 

@@ -1,8 +1,8 @@
 use Rattle.std.proofs.Common.{List, inl, inr, refl, sym, subst, arith}
 use Rattle.std.proofs.lemmas.List.Elements.{All-append}
 use Rattle.vt_key.specs.declared.letter.Letter.{Letter}
-use Rattle.vt_model.specs.Settings.{end_of}
-use Rattle.vt_lp.specs.Held.{IsWithinRun, AllWithinRun}
+use Rattle.vt_model.specs.promise.Settings.{end_of}
+use Rattle.vt_lp.specs.inside.Held.{IsWithinRun, AllWithinRun}
 use Rattle.vt_lp.proofs.lp.Lp.new.Goals as goal
 
 pub overflow_add-serial : goal.overflow_add-serial

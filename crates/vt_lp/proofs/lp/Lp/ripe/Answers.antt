@@ -1,8 +1,8 @@
 use Rattle.std.proofs.Common.{◌≡◌, ◌++◌, ◌∙◌, List, ap, sym, subst}
 use Rattle.std.specs.Prelude.{IfOk}
 use Rattle.vt_model.specs.declared.rows.Row.{Row}
-use Rattle.vt_lp.specs.Held.{HeldProcess}
-use Rattle.vt_lp.specs.Ripe.{rows_of_ripe}
+use Rattle.vt_lp.specs.inside.Held.{HeldProcess}
+use Rattle.vt_lp.specs.inside.Ripe.{rows_of_ripe}
 use Rattle.vt_lp.proofs.RipeLemmas.{rows-ripe}
 use Rattle.vt_lp.proofs.lp.Lp.ripe.Goals as goal
 

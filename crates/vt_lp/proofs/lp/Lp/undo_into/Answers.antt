@@ -2,17 +2,18 @@ use Rattle.std.proofs.Common.{◌≡◌, ◌∙◌, ◌+◌, ◌-◌, ◌%◌, �
 use Rattle.std.specs.List.{All}
 use Rattle.std.proofs.lemmas.List.Elements.{All-append}
 use Rattle.std.proofs.lemmas.List.{length_push}
-use Rattle.vt_key.specs.Queues.{insert_letter, holds_rank}
+use Rattle.vt_key.specs.promise.Queues.{insert_letter}
+use Rattle.vt_key.specs.inside.Queues.{holds_rank}
 use Rattle.vt_key.specs.declared.limits.TheConstants.{MAX_COUNT}
 use Rattle.vt_key.specs.declared.letter.Letter.{Letter}
-use Rattle.vt_stream.specs.Words.{Stream}
+use Rattle.vt_stream.specs.inside.Words.{Stream}
 use Rattle.vt_model.specs.declared.limits.TheConstants.{MAX_DRAWS}
-use Rattle.vt_model.specs.Process.{triple_at}
-use Rattle.vt_model.specs.Settings.{end_of}
-use Rattle.vt_steps.specs.Letters.{unstamped}
+use Rattle.vt_model.specs.inside.Process.{triple_at}
+use Rattle.vt_model.specs.promise.Settings.{end_of}
+use Rattle.vt_steps.specs.promise.Letters.{unstamped}
 use Rattle.vt_past.specs.declared.event.PastEvent.{PastEvent}
 use Rattle.vt_past.specs.declared.event.UndoEntry.{UndoEntry}
-use Rattle.vt_lp.specs.Held.{HeldProcess, StandsFor, AllWithinRun, IsWithinRun, IsOwnEvent, IsNotPending}
+use Rattle.vt_lp.specs.inside.Held.{HeldProcess, StandsFor, AllWithinRun, IsWithinRun, IsOwnEvent, IsNotPending}
 use Rattle.vt_lp.proofs.UndoLemmas.{undo-none, undoes, inside-less, All-front, ready-within, length-insert}
 use Rattle.vt_lp.proofs.ProcessView.{process_view}
 use Rattle.vt_lp.proofs.lp.Lp.undo_into.Given.{Over}

@@ -1,6 +1,6 @@
 use Rattle.std.proofs.Common.{◌∙◌, Bool, List, ℕ, slice_get, ap, sym}
 use Rattle.std.proofs.lemmas.Option.{IfSome_then}
-use Rattle.vt_marks.specs.Bits.{is_set}
+use Rattle.vt_marks.specs.inside.Bits.{is_set}
 use Rattle.vt_marks.proofs.MarkLemmas.{set-marked, unset-unmarked, if_none-more}
 use Rattle.vt_marks.proofs.marks.Marks.first_from.Goals as goal
 

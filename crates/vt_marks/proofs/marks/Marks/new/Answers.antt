@@ -1,5 +1,5 @@
 use Rattle.std.proofs.Common.{rules, ◌≡◌, ◌∙◌, ℕ, List, replicate, ap}
-use Rattle.vt_marks.specs.Bits.{marks_of}
+use Rattle.vt_marks.specs.inside.Bits.{marks_of}
 use Rattle.vt_marks.proofs.MarkLemmas.{none-marked}
 use Rattle.vt_marks.proofs.marks.Marks.new.Goals as goal
 

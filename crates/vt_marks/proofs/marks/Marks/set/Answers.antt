@@ -1,7 +1,7 @@
 use Rattle.std.proofs.Common.{◌≡◌, ◌∙◌, ◌<◌, ◌/◌, Bool, List, ℕ, ◌++◌, take, drop, length, slice_set, ap, sym, subst, arith}
 use Rattle.std.proofs.lemmas.List.{length-set, set_past}
 use Rattle.std.proofs.lemmas.List.FromFn.{length-map-range_with_len}
-use Rattle.vt_marks.specs.Bits.{is_set, marks_of, AreKept}
+use Rattle.vt_marks.specs.inside.Bits.{is_set, marks_of, AreKept}
 use Rattle.vt_marks.proofs.MarkLemmas.{whole, marked-anew, none-anew, summed-anew}
 use Rattle.vt_marks.proofs.marks.Marks.set.Goals as goal
 

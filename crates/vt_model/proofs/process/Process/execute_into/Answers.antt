@@ -1,10 +1,10 @@
 use Rattle.std.proofs.Common.{◌<◌, ◌∙◌, sym, arith, refl, subst}
-use Rattle.vt_stream.specs.Words.{word_of, moved}
-use Rattle.vt_model.specs.Sends.{with_requests}
+use Rattle.vt_stream.specs.inside.Words.{word_of, moved}
+use Rattle.vt_model.specs.inside.Sends.{with_requests}
 use Rattle.vt_model.proofs.FireLemmas.{fires}
 use Rattle.vt_stream.proofs.WordLemmas.{word_below}
 use Rattle.vt_model.proofs.process.Process.execute_into.Goals as goal
-use Rattle.vt_model.specs.Settings.{end_of}
+use Rattle.vt_model.specs.promise.Settings.{end_of}
 
 pub returns-clause-fires : goal.returns-clause-fires
 returns-clause-fires g c =

@@ -1,11 +1,12 @@
 use Rattle.std.proofs.Common.{◌≡◌, ◌∙◌, [], ap, arith, rules}
-use Rattle.vt_stream.specs.Words.{Stream, seed_key, word_of, moved}
+use Rattle.vt_stream.specs.promise.Words.{seed_key}
+use Rattle.vt_stream.specs.inside.Words.{Stream, word_of, moved}
 use Rattle.vt_stream.proofs.WordLemmas.{word_below}
-use Rattle.vt_model.specs.Sends.{Outgoing, with_requests}
-use Rattle.vt_model.specs.Simulation.{words_at}
+use Rattle.vt_model.specs.inside.Sends.{Outgoing, with_requests}
+use Rattle.vt_model.specs.promise.Simulation.{words_at}
 use Rattle.vt_model.proofs.FireLemmas.{starts}
 use Rattle.vt_model.proofs.process.Process.start.Goals as goal
-use Rattle.vt_model.specs.Settings.{end_of}
+use Rattle.vt_model.specs.promise.Settings.{end_of}
 
 pub returns-clause-triple : goal.returns-clause-triple
 returns-clause-triple g c =

@@ -1,5 +1,5 @@
 use Rattle.std.proofs.Common.{◌+◌, ◌<◌, ap, sym, subst, length, length-append, arith}
-use Rattle.vt_model.specs.Out.{sends_held}
+use Rattle.vt_model.specs.inside.Out.{sends_held}
 use Rattle.vt_model.specs.declared.limits.TheConstants.{MAX_SENDS}
 use Rattle.vt_model.proofs.SendLemmas.{sent_inside, sent_early, sent_late}
 use Rattle.vt_model.proofs.sending.Out.send.Goals as goal

@@ -1,5 +1,5 @@
 use Rattle.std.proofs.Common.{◌+◌, ◌∙◌, ap, arith}
-use Rattle.vt_stream.specs.Words.{Stream, word_of, moved}
+use Rattle.vt_stream.specs.inside.Words.{Stream, word_of, moved}
 use Rattle.vt_stream.proofs.DrawLemmas.{moved-moved, word_after}
 use Rattle.vt_model.proofs.RequestLemmas.{recorded_then_sent}
 use Rattle.vt_models.proofs.PholdSteps.{goes_far, stays_near}

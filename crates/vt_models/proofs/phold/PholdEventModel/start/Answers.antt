@@ -1,8 +1,9 @@
 use Rattle.std.proofs.Common.{◌≡◌, ◌+◌, List, [], ◌∷◌, ◌++◌, ◌∙◌, length, sym, ap, arith, rules, refl, add-one, lit<}
-use Rattle.vt_model.specs.Sends.{SendRequest, Outgoing, with_requests}
-use Rattle.vt_stream.specs.Words.{Stream, word_of, moved}
-use Rattle.vt_models.specs.Phold.{scheduled, first_events}
-use Rattle.vt_models.specs.PholdLaws.{first_events_few, first_events-suc}
+use Rattle.vt_model.specs.promise.Sends.{SendRequest}
+use Rattle.vt_model.specs.inside.Sends.{Outgoing, with_requests}
+use Rattle.vt_stream.specs.inside.Words.{Stream, word_of, moved}
+use Rattle.vt_models.specs.promise.Phold.{scheduled, first_events}
+use Rattle.vt_models.specs.inside.PholdLaws.{first_events_few, first_events-suc}
 use Rattle.vt_stream.proofs.DrawLemmas.{moved-zero, moved-moved, word_after}
 use Rattle.vt_model.proofs.RequestLemmas.{no_requests, sent_after}
 use Rattle.vt_models.proofs.phold.PholdEventModel.start.Goals as goal

@@ -1,7 +1,7 @@
 use Rattle.std.proofs.Common.{◌≡◌, []}
-use Rattle.vt_stream.specs.Words.{word_of, moved}
-use Rattle.vt_model.specs.Sends.{with_requests}
-use Rattle.vt_models.specs.Phold.{first_events}
+use Rattle.vt_stream.specs.inside.Words.{word_of, moved}
+use Rattle.vt_model.specs.inside.Sends.{with_requests}
+use Rattle.vt_models.specs.promise.Phold.{first_events}
 use Rattle.vt_models.proofs.phold.PholdEventModel.start.Given as goal
 
 abbrev pub invariant-events : goal.invariant-events

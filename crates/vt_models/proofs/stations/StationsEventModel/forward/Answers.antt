@@ -1,12 +1,12 @@
 use Rattle.std.proofs.Common.{◌≡◌, ℕ, [], ◌∷◌, ◌∙◌, sym, ap, arith}
-use Rattle.vt_model.specs.Handler.{ForwardResult}
-use Rattle.vt_model.specs.Sends.{Outgoing, with_requests}
-use Rattle.vt_stream.specs.Words.{word_of}
+use Rattle.vt_model.specs.promise.Handler.{ForwardResult}
+use Rattle.vt_model.specs.inside.Sends.{Outgoing, with_requests}
+use Rattle.vt_stream.specs.inside.Words.{word_of}
 use Rattle.vt_models.specs.declared.stations.Server.{Server}
 use Rattle.vt_models.specs.declared.stations.JobEvent.{JobEvent}
 use Rattle.vt_models.specs.declared.stations.JobEvent.TheVariants.{Arrive}
-use Rattle.vt_stream.specs.Drawn.{scaled}
-use Rattle.vt_models.specs.Stations.{one_served, departure}
+use Rattle.vt_stream.specs.promise.Drawn.{scaled}
+use Rattle.vt_models.specs.promise.Stations.{one_served, departure}
 use Rattle.vt_stream.proofs.DrawLemmas.{word_after}
 use Rattle.vt_model.proofs.RequestLemmas.{recorded_then_sent, no_requests, sent_after}
 use Rattle.vt_models.proofs.StationsSteps.{served_at_once, departs_from_none, departs_last, departs_before_next}

@@ -1,7 +1,7 @@
 use Rattle.std.proofs.Common.{[], ◌∙◌, sym, ap}
-use Rattle.vt_model.specs.Handler.{StartResult}
-use Rattle.vt_model.specs.Sends.{Outgoing, with_requests}
-use Rattle.vt_stream.specs.Words.{word_of}
+use Rattle.vt_model.specs.promise.Handler.{StartResult}
+use Rattle.vt_model.specs.inside.Sends.{Outgoing, with_requests}
+use Rattle.vt_stream.specs.inside.Words.{word_of}
 use Rattle.vt_models.specs.declared.stations.Server.{Server}
 use Rattle.vt_models.specs.declared.stations.JobEvent.{JobEvent}
 use Rattle.vt_model.proofs.RequestLemmas.{no_requests}

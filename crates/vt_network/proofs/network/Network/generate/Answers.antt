@@ -1,8 +1,8 @@
 use Rattle.std.proofs.Common.{◌∙◌, [], ◌∷◌}
-use Rattle.vt_model.specs.Sends.{with_requests}
+use Rattle.vt_model.specs.inside.Sends.{with_requests}
 use Rattle.vt_model.proofs.RequestLemmas.{sent_after}
 use Rattle.vt_network.specs.declared.network.NetworkEvent.TheVariants.{Arrive}
-use Rattle.vt_network.specs.Network.{next_made}
+use Rattle.vt_network.specs.inside.Network.{next_made}
 use Rattle.vt_network.proofs.network.Network.generate.Goals as goal
 
 pub returns-clause-out : goal.returns-clause-out

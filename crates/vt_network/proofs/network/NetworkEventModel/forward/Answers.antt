@@ -1,10 +1,10 @@
 use Rattle.std.proofs.Common.{◌≡◌, ◌+◌, ◌∙◌, [], ap, sym}
-use Rattle.vt_model.specs.Sends.{with_requests}
-use Rattle.vt_stream.specs.Words.{word_of}
-use Rattle.vt_stream.specs.Drawn.{scaled}
+use Rattle.vt_model.specs.inside.Sends.{with_requests}
+use Rattle.vt_stream.specs.inside.Words.{word_of}
+use Rattle.vt_stream.specs.promise.Drawn.{scaled}
 use Rattle.vt_stream.proofs.DrawLemmas.{word_after}
 use Rattle.vt_network.specs.declared.network.NetworkEvent.{NetworkEvent}
-use Rattle.vt_network.specs.Network.{made_sends, sends_by, records_by}
+use Rattle.vt_network.specs.inside.Network.{made_sends, sends_by, records_by}
 use Rattle.vt_network.proofs.network.NetworkEventModel.forward.Goals as goal
 
 pub returns-in-Generate-clause-out : goal.returns-in-Generate-clause-out

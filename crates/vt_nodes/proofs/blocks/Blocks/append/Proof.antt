@@ -1,6 +1,6 @@
 -- `append` joins what the two own, and runs no code but that of two empty structs.
 use Rattle.vt_nodes.proofs.Walk.{◌≡◌, List, [], ◌∷◌, ◌++◌, refl, sym, subst, a_type, Val, inst_fn, SProp, ent, emp, id⊢, ftrue, flft, WpFn, ‵, raw, ◌⊛◌, ◌$◌, ◌∵◌, !, qed, by, move, keep, split, fsplit, fsplit3, fjoin, use0, use2, suffices, no_more, and_then, returns, enter, alloc_all, pass_all, free_all, look_at, get, sets, agg, tables, fact, fact_i, no, owns, types_at, plain, nothing, param, layout, layouts, param_laws, Stays, stay_dropped, walk_of, Goes-dropped, one, proved_at, leaves}
-use Rattle.vt_nodes.specs.Blocks.{blocks_owned}
+use Rattle.vt_nodes.specs.inside.Blocks.{blocks_owned}
 use Rattle.vt_nodes.specs.contracts.blocks.Blocks as blocks
 use Rattle.vt_nodes.specs.contracts.blocks.Blocks.append as this
 use Rattle.vt_nodes.proofs.Owning.{no_bytes, Blank, blank, joined}

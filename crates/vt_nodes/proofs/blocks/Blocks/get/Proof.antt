@@ -12,7 +12,7 @@ use denote.Struct.Lending.{lent_at, lent_out, in_block_says}
 use Rattle.core.proofs.alloc.Shapes.{after}
 use Rattle.core.specs.contracts.marker.PhantomData as phantom
 use Rattle.std.specs.Prelude.{length, slice_index_or}
-use Rattle.vt_nodes.specs.Blocks.{blocks_lent, place_at}
+use Rattle.vt_nodes.specs.inside.Blocks.{blocks_lent, place_at}
 use Rattle.vt_nodes.specs.contracts.blocks.Blocks as blocks
 use Rattle.vt_nodes.specs.contracts.blocks.Blocks.get as this
 use Rattle.vt_nodes.proofs.Owning.{Bytes, seen}

@@ -7,7 +7,7 @@ use denote.Builtin.{RefOf}
 use denote.Struct.Lending.{lent_out}
 use Rattle.core.specs.contracts.marker.PhantomData as phantom
 use Rattle.std.specs.Prelude.{take, drop as dropped}
-use Rattle.vt_nodes.specs.Blocks.{blocks_lent}
+use Rattle.vt_nodes.specs.inside.Blocks.{blocks_lent}
 use Rattle.vt_nodes.specs.contracts.blocks.Blocks as blocks
 use Rattle.vt_nodes.specs.contracts.blocks.Blocks.part as this
 use Rattle.vt_nodes.proofs.Owning.{Bytes, seen-drop, seen-take}

@@ -3,7 +3,7 @@ use Rattle.vt_nodes.proofs.Walk.{◌≡◌, ℕ, List, [], ◌∷◌, ◌++◌, 
 use Rattle.std.specs.Prelude.{take, drop as dropped}
 use Rattle.std.proofs.lemmas.List.{take-append-drop}
 use denote.Struct.Tuple.{Tuple}
-use Rattle.vt_nodes.specs.Blocks.{blocks_owned}
+use Rattle.vt_nodes.specs.inside.Blocks.{blocks_owned}
 use Rattle.vt_nodes.specs.contracts.blocks.Blocks as blocks
 use Rattle.vt_nodes.specs.contracts.blocks.Blocks.split as this
 use Rattle.vt_nodes.proofs.Owning.{no_bytes, Blank, blank, parted, pair, paired}

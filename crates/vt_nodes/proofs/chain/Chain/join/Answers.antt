@@ -1,5 +1,5 @@
 use Rattle.std.proofs.Common.{◌++◌, sym, ap, ◌∙◌, subst}
-use Rattle.vt_nodes.specs.Linked.{IsChain, with_prev}
+use Rattle.vt_nodes.specs.inside.Linked.{IsChain, with_prev}
 use Rattle.vt_nodes.proofs.Links.{join-chain, no-items, items-joined, items-with_prev}
 use Rattle.vt_nodes.proofs.chain.Chain.join.Goals as goal
 

@@ -1,5 +1,5 @@
 use Rattle.std.proofs.Common.{◌++◌, List, slice_index_or, sym, ap, ◌∙◌, subst}
-use Rattle.vt_nodes.specs.Linked.{NodeAt, IsPlace}
+use Rattle.vt_nodes.specs.inside.Linked.{NodeAt, IsPlace}
 use Rattle.vt_nodes.proofs.Links.{next-place}
 use Rattle.vt_nodes.proofs.cursor.Cursor.advance.Goals as goal
 

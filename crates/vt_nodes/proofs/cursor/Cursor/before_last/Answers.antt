@@ -1,5 +1,5 @@
 use Rattle.std.proofs.Common.{rules, [], ◌-◌, length, take, drop, sym, ap, ◌∙◌, arith}
-use Rattle.vt_nodes.specs.Blocks.{place_at}
+use Rattle.vt_nodes.specs.inside.Blocks.{place_at}
 use Rattle.vt_nodes.proofs.Links.{last-of, drop-last, last-place, no-items}
 use Rattle.vt_nodes.proofs.cursor.Cursor.before_last.Goals as goal
 

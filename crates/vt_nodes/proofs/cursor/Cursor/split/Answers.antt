@@ -1,5 +1,5 @@
 use Rattle.std.proofs.Common.{sym, ap, ◌∙◌, subst}
-use Rattle.vt_nodes.specs.Linked.{IsChain, items, with_next, with_prev}
+use Rattle.vt_nodes.specs.inside.Linked.{IsChain, items, with_next, with_prev}
 use Rattle.vt_nodes.proofs.Links.{front-chain, back-chain, all-ahead, items-with_next, items-with_prev}
 use Rattle.vt_nodes.proofs.cursor.Cursor.split.Goals as goal
 

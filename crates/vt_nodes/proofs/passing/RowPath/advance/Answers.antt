@@ -1,6 +1,6 @@
 use Rattle.std.proofs.Common.{◌++◌, List, map, sym, ap, ◌∙◌, subst}
-use Rattle.vt_nodes.specs.Linked.{NodeAt, items, advanced}
-use Rattle.vt_nodes.specs.Lines.{lines_of, ArePassed}
+use Rattle.vt_nodes.specs.inside.Linked.{NodeAt, items, advanced}
+use Rattle.vt_nodes.specs.inside.Lines.{lines_of, ArePassed}
 use Rattle.vt_nodes.proofs.Rows.{taken-off}
 use Rattle.vt_nodes.proofs.RowPaths.{next-passed}
 use Rattle.vt_nodes.proofs.passing.RowPath.advance.Goals as goal

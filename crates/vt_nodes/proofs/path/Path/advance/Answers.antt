@@ -1,5 +1,5 @@
 use Rattle.std.proofs.Common.{◌++◌, List, slice_index_or, sym, ap, ◌∙◌, subst}
-use Rattle.vt_nodes.specs.Linked.{NodeAt, IsPath}
+use Rattle.vt_nodes.specs.inside.Linked.{NodeAt, IsPath}
 use Rattle.vt_nodes.proofs.Paths.{next-path}
 use Rattle.vt_nodes.proofs.path.Path.advance.Goals as goal
 

@@ -1,4 +1,4 @@
-use Rattle.vt_nodes.specs.Lines.{first_length, lines_of}
+use Rattle.vt_nodes.specs.inside.Lines.{first_length, lines_of}
 use Rattle.vt_nodes.proofs.row.Row.split_first.Given as goal
 
 abbrev pub ghost-split : goal.ghost-split

@@ -1,6 +1,6 @@
 use Rattle.std.proofs.Common.{◌≡◌, ◌++◌, ◌∷◌, List, None, map, sym, ap, ◌∙◌, subst}
-use Rattle.vt_nodes.specs.Linked.{NodeAt, first_or, items}
-use Rattle.vt_nodes.specs.Lines.{lines_of, StandInRow}
+use Rattle.vt_nodes.specs.inside.Linked.{NodeAt, first_or, items}
+use Rattle.vt_nodes.specs.inside.Lines.{lines_of, StandInRow}
 use Rattle.vt_nodes.proofs.Rows.{put-on}
 use Rattle.vt_nodes.proofs.row.Row.with_first.Goals as goal
 

@@ -1,5 +1,5 @@
 use Rattle.std.proofs.Common.{◌∙◌, List, slice_get, ap, sym}
-use Rattle.vt_steps.specs.PartSteps.{is_for}
+use Rattle.vt_steps.specs.promise.PartSteps.{is_for}
 use Rattle.vt_key.specs.declared.letter.Letter.{Letter}
 use Rattle.vt_outbox.proofs.OutboxLemmas.{find-filter}
 use Rattle.vt_outbox.proofs.outbox.Outbox.first_for.Goals as goal

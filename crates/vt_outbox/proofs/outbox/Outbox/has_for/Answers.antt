@@ -1,5 +1,5 @@
 use Rattle.std.proofs.Common.{sym}
-use Rattle.vt_steps.specs.PartSteps.{is_for}
+use Rattle.vt_steps.specs.promise.PartSteps.{is_for}
 use Rattle.vt_outbox.proofs.OutboxLemmas.{empty-any, none-filter}
 use Rattle.vt_outbox.proofs.outbox.Outbox.has_for.Goals as goal
 

@@ -1,11 +1,11 @@
 use Rattle.std.proofs.Common.{◌≡◌, ◌∙◌, List, length, slice_get, refl, sym, ap, arith}
 use Rattle.std.specs.List.{filter}
 use Rattle.std.proofs.lemmas.Option.{slice_get_read}
-use Rattle.vt_key.specs.Times.{earlier}
+use Rattle.vt_key.specs.promise.Times.{earlier}
 use Rattle.vt_key.specs.declared.letter.Letter.{Letter}
-use Rattle.vt_steps.specs.Letters.{least_time}
-use Rattle.vt_steps.specs.PartSteps.{is_for}
-use Rattle.vt_outbox.specs.Outbox.{HeldOutbox}
+use Rattle.vt_steps.specs.promise.Letters.{least_time}
+use Rattle.vt_steps.specs.promise.PartSteps.{is_for}
+use Rattle.vt_outbox.specs.inside.Outbox.{HeldOutbox}
 use Rattle.vt_outbox.proofs.OutboxLemmas.{letters_below-none, letters_below-all, least-below_more}
 use Rattle.vt_outbox.proofs.outbox.Outbox.least.Goals as goal
 

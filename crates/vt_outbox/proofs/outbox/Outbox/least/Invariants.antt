@@ -1,5 +1,5 @@
 use Rattle.std.proofs.Common.{◌≡◌}
-use Rattle.vt_steps.specs.Letters.{least_time}
+use Rattle.vt_steps.specs.promise.Letters.{least_time}
 use Rattle.vt_outbox.proofs.OutboxLemmas.{letters_below}
 use Rattle.vt_outbox.proofs.outbox.Outbox.least.Given as goal
 

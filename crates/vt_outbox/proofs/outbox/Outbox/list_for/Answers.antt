@@ -1,7 +1,7 @@
 use Rattle.std.proofs.Common.{◌≡◌, ◌∙◌, length, ap, sym, arith}
 use Rattle.std.specs.List.{filter}
-use Rattle.vt_steps.specs.PartSteps.{is_for}
-use Rattle.vt_outbox.specs.Outbox.{HeldOutbox}
+use Rattle.vt_steps.specs.promise.PartSteps.{is_for}
+use Rattle.vt_outbox.specs.inside.Outbox.{HeldOutbox}
 use Rattle.vt_outbox.proofs.OutboxLemmas.{if-none, filter-never, never-beyond}
 use Rattle.vt_outbox.proofs.outbox.Outbox.list_for.Goals as goal
 

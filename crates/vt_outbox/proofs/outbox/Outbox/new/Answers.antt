@@ -1,5 +1,5 @@
 use Rattle.std.proofs.Common.{subst, sym, arith}
-use Rattle.vt_outbox.specs.Outbox.{IsSorted}
+use Rattle.vt_outbox.specs.inside.Outbox.{IsSorted}
 use Rattle.vt_outbox.proofs.OutboxLemmas.{sorted-none}
 use Rattle.vt_outbox.proofs.outbox.Outbox.new.Goals as goal
 

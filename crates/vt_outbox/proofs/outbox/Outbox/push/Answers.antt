@@ -1,7 +1,7 @@
 use Rattle.std.proofs.Common.{◌≡◌, ◌∙◌, ◌%◌, [], ◌∷◌, ◌++◌, slice_set, ap, subst, sym, refl}
 use Rattle.std.proofs.lemmas.Option.{slice_get_read}
 use Rattle.vt_key.specs.declared.letter.Letter.{Letter}
-use Rattle.vt_outbox.specs.Outbox.{HeldOutbox, IsSorted}
+use Rattle.vt_outbox.specs.inside.Outbox.{HeldOutbox, IsSorted}
 use Rattle.vt_outbox.proofs.OutboxLemmas.{sorted-put}
 use Rattle.vt_outbox.proofs.outbox.Outbox.push.Goals as goal
 

@@ -1,8 +1,8 @@
 use Rattle.std.proofs.Common.{◌≡◌, ◌∙◌, slice_set, Some, ap, subst, sym, refl}
 use Rattle.std.specs.List.{find}
-use Rattle.vt_steps.specs.PartSteps.{is_for}
-use Rattle.vt_key.specs.Queues.{without_first}
-use Rattle.vt_outbox.specs.Outbox.{HeldOutbox, IsSorted}
+use Rattle.vt_steps.specs.promise.PartSteps.{is_for}
+use Rattle.vt_key.specs.promise.Queues.{without_first}
+use Rattle.vt_outbox.specs.inside.Outbox.{HeldOutbox, IsSorted}
 use Rattle.vt_outbox.proofs.OutboxLemmas.{list-read, sorted-back}
 use Rattle.vt_outbox.proofs.outbox.Outbox.put_back.Goals as goal
 

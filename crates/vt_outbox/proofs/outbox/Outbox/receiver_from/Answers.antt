@@ -1,9 +1,9 @@
 use Rattle.std.proofs.Common.{◌≡◌, ◌∙◌, ◌≤◌, ℕ, Bool, true, false, not, ◌&&◌, nat_eq, nat_lt, refl, ap, subst, arith}
 use Rattle.std.proofs.lemmas.Bool.{ltb-true, ltb-false}
 use Rattle.vt_key.specs.declared.letter.Letter.{Letter}
-use Rattle.vt_steps.specs.PartSteps.{is_for}
-use Rattle.vt_steps.specs.CellSteps.{may_send}
-use Rattle.vt_outbox.specs.Outbox.{HeldOutbox}
+use Rattle.vt_steps.specs.promise.PartSteps.{is_for}
+use Rattle.vt_steps.specs.promise.CellSteps.{may_send}
+use Rattle.vt_outbox.specs.inside.Outbox.{HeldOutbox}
 use Rattle.vt_outbox.proofs.OutboxLemmas.{filter-never, never-beyond, none-filter}
 use Rattle.vt_outbox.proofs.outbox.Outbox.receiver_from.Goals as goal
 

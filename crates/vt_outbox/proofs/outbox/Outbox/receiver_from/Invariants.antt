@@ -1,5 +1,5 @@
 use Rattle.std.proofs.Common.{◌≡◌, ℕ, ◌<◌, ◌≤◌, false}
-use Rattle.vt_steps.specs.CellSteps.{may_send}
+use Rattle.vt_steps.specs.promise.CellSteps.{may_send}
 use Rattle.vt_outbox.proofs.outbox.Outbox.receiver_from.Given as goal
 
 abbrev pub invariant-loop-u : goal.invariant-loop-u

@@ -1,8 +1,8 @@
 use Rattle.std.proofs.Common.{◌≡◌, ◌∙◌, ◌%◌, ◌^◌, not, length, List, slice_set, ap, subst, sym, refl}
 use Rattle.std.specs.List.{filter}
-use Rattle.vt_steps.specs.PartSteps.{is_for}
+use Rattle.vt_steps.specs.promise.PartSteps.{is_for}
 use Rattle.vt_key.specs.declared.letter.Letter.{Letter}
-use Rattle.vt_outbox.specs.Outbox.{HeldOutbox, IsSorted}
+use Rattle.vt_outbox.specs.inside.Outbox.{HeldOutbox, IsSorted}
 use Rattle.vt_outbox.proofs.OutboxLemmas.{list-read, sorted-taken}
 use Rattle.vt_outbox.proofs.outbox.Outbox.take_for.Goals as goal
 

@@ -1,7 +1,7 @@
 use Rattle.std.proofs.Common.{◌∙◌, Some, ap, sym}
 use Rattle.vt_key.specs.declared.letter.Letter.{Letter}
 use Rattle.vt_past.specs.declared.event.PastEvent.{PastEvent}
-use Rattle.vt_past.specs.Events.{last_rank}
+use Rattle.vt_past.specs.inside.Events.{last_rank}
 use Rattle.vt_past.proofs.LastLemmas.{last-pushed}
 use Rattle.vt_past.proofs.past.Past.push_back.Goals as goal
 

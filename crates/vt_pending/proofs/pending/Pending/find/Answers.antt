@@ -1,5 +1,5 @@
 use Rattle.std.proofs.Common.{find, None, ap, ◌∙◌}
-use Rattle.vt_pending.specs.Buckets.{least_from}
+use Rattle.vt_pending.specs.inside.Buckets.{least_from}
 use Rattle.vt_pending.proofs.Searching.{row-find}
 use Rattle.vt_pending.proofs.pending.Pending.find.Goals as goal
 

@@ -1,8 +1,8 @@
 use Rattle.std.proofs.Common.{rules, ◌≡◌, ◌∙◌, false, true, find, filter, sym, ap}
 use Rattle.vt_key.proofs.ListLemmas.{rising-filter}
-use Rattle.vt_pending.specs.Letters.{some_has_rank, is_reached}
-use Rattle.vt_key.specs.Queues.{holds_rank}
-use Rattle.vt_pending.specs.Buckets.{bucket_of, in_bucket, letters_of, list_at}
+use Rattle.vt_pending.specs.inside.Letters.{some_has_rank, is_reached}
+use Rattle.vt_key.specs.inside.Queues.{holds_rank}
+use Rattle.vt_pending.specs.inside.Buckets.{bucket_of, in_bucket, letters_of, list_at}
 use Rattle.vt_pending.proofs.Holding.{holds-first}
 use Rattle.vt_pending.proofs.Kept.{marks-of, empty-else, holds-own}
 use Rattle.vt_pending.proofs.pending.Pending.holds.Goals as goal

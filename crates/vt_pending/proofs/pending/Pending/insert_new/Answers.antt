@@ -1,7 +1,7 @@
 use Rattle.std.proofs.Common.{ℕ, ◌≡◌, ◌≢◌, ◌↔◌, ◌^◌, arith, bit_or, length, sym, ap, ◌∙◌, subst}
 use Rattle.std.specs.Prelude.{IsBitSet}
-use Rattle.vt_key.specs.Queues.{insert_letter}
-use Rattle.vt_pending.specs.Buckets.{list_at, insert_in, letters_of}
+use Rattle.vt_key.specs.promise.Queues.{insert_letter}
+use Rattle.vt_pending.specs.inside.Buckets.{list_at, insert_in, letters_of}
 use Rattle.vt_pending.proofs.Rows.{own}
 use Rattle.vt_pending.proofs.Words.{set-bit, set-other-bit}
 use Rattle.vt_pending.proofs.Kept.{Keeps, empty-else, marks-of, inserted, length-insert}

@@ -2,7 +2,7 @@ use Rattle.std.proofs.Common.{◌↔◌, IsTrue, List, subst}
 use Rattle.std.specs.Prelude.{IsBitSet}
 use Rattle.std.specs.List.{list_any}
 use Rattle.vt_key.specs.declared.letter.Letter.{Letter}
-use Rattle.vt_pending.specs.Buckets.{in_bucket}
+use Rattle.vt_pending.specs.inside.Buckets.{in_bucket}
 use Rattle.vt_pending.proofs.Kept.{marks-of, any-list}
 use Rattle.vt_pending.proofs.pending.Pending.mask.Goals as goal
 

@@ -1,6 +1,6 @@
 use Rattle.std.proofs.Common.{ℕ, ◌≢◌, ◌↔◌, ◌≡◌, [], ◌∷◌, arith, length, sym, ap, ◌∙◌, subst}
 use Rattle.std.specs.Prelude.{IsBitSet}
-use Rattle.vt_pending.specs.Buckets.{letters_of, IsRow}
+use Rattle.vt_pending.specs.inside.Buckets.{letters_of, IsRow}
 use Rattle.vt_pending.proofs.Rows.{own}
 use Rattle.vt_pending.proofs.Kept.{Left, marks-of, first-left, first-marked}
 use Rattle.vt_pending.proofs.pending.Pending.take_least.Given.{Over}

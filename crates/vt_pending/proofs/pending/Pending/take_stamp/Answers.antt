@@ -1,7 +1,7 @@
 use Rattle.std.proofs.Common.{ℕ, ◌≡◌, ◌≢◌, ◌↔◌, [], arith, find, filter, is_some, length, Some, None, option_copied, sym, ap, ◌∙◌, subst}
 use Rattle.std.specs.Prelude.{IsBitSet}
-use Rattle.vt_key.specs.Queues.{without_first, has_stamp}
-use Rattle.vt_pending.specs.Buckets.{in_bucket, not_in_bucket, list_at, without_list, letters_of, IsRow}
+use Rattle.vt_key.specs.promise.Queues.{without_first, has_stamp}
+use Rattle.vt_pending.specs.inside.Buckets.{in_bucket, not_in_bucket, list_at, without_list, letters_of, IsRow}
 use Rattle.vt_pending.proofs.Filters.{find-filter}
 use Rattle.vt_pending.proofs.Finding.{is_some-find, without-none}
 use Rattle.vt_pending.proofs.Rows.{own, in-own, row-without}

@@ -1,6 +1,6 @@
 use Rattle.std.proofs.Common.{◌≡◌, Bool, ap, eqb, eqb-true, refl, sym, ◌∙◌, arith, false, true, not}
-use Rattle.vt_model.specs.Simulation.{simulation_of}
-use Rattle.vt_places.specs.Slots.{claimed_word}
+use Rattle.vt_model.specs.promise.Simulation.{simulation_of}
+use Rattle.vt_places.specs.inside.Slots.{claimed_word}
 use Rattle.vt_places.proofs.Keeps.{claims}
 use Rattle.vt_places.proofs.station.Station.claim.Goals as goal
 

@@ -1,4 +1,4 @@
-use Rattle.vt_model.specs.Simulation.{simulation_of}
+use Rattle.vt_model.specs.promise.Simulation.{simulation_of}
 use Rattle.vt_places.proofs.Keeps.{Claimed}
 use Rattle.vt_places.proofs.station.Station.claim.Given as goal
 

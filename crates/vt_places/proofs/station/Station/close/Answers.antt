@@ -1,11 +1,11 @@
 use Rattle.std.proofs.Common.{◌≡◌, [], Ok, Err, refl, sym, ap, subst, ◌∙◌}
-use Rattle.vt_model.specs.Simulation.{simulation_of}
-use Rattle.vt_model.specs.Settings.{end_of}
+use Rattle.vt_model.specs.promise.Simulation.{simulation_of}
+use Rattle.vt_model.specs.promise.Settings.{end_of}
 use Rattle.vt_steps.specs.declared.step.Step.TheVariants.{Close}
-use Rattle.vt_steps.specs.World.{book_floor}
-use Rattle.vt_steps.specs.Cells.{Acted, in_book, act}
-use Rattle.vt_book.specs.Books.{RunBook}
-use Rattle.vt_cells.specs.Calls.{IsClosingRefusal}
+use Rattle.vt_steps.specs.promise.World.{book_floor}
+use Rattle.vt_steps.specs.inside.Cells.{Acted, in_book, act}
+use Rattle.vt_book.specs.inside.Books.{RunBook}
+use Rattle.vt_cells.specs.inside.Calls.{IsClosingRefusal}
 use Rattle.vt_places.proofs.CallLemmas.{closes-there}
 use Rattle.vt_places.proofs.BookAt.{book-ends, run-book, book-kept, not-open, refused-once}
 use Rattle.vt_places.proofs.AloneLemmas.{close-alone}

@@ -1,15 +1,15 @@
 use Rattle.std.proofs.Common.{◌≡◌, ℕ, Ok, Err, refl, sym, ap, subst, ◌∙◌}
 use Rattle.vt_model.specs.declared.settings.Config.{Config}
-use Rattle.vt_model.specs.Simulation.{simulation_of}
-use Rattle.vt_model.specs.Settings.{end_of}
+use Rattle.vt_model.specs.promise.Simulation.{simulation_of}
+use Rattle.vt_model.specs.promise.Settings.{end_of}
 use Rattle.vt_steps.specs.declared.step.Step.TheVariants.{Commit}
 use Rattle.vt_steps.specs.declared.step.Reply.TheVariants.{Done}
-use Rattle.vt_steps.specs.World.{Part, Book, book_floor}
-use Rattle.vt_steps.specs.PartSteps.{part_after_commit}
-use Rattle.vt_steps.specs.Cells.{in_book, act}
-use Rattle.vt_kernel.specs.Held.{HeldWorker, StandsFor}
-use Rattle.vt_cells.specs.Calls.{IsCellRefusal, IsHandInRefusal, AreOfOneWorld, CommitsTo}
-use Rattle.vt_places.specs.Calls.{Visited, ShowsFloor}
+use Rattle.vt_steps.specs.promise.World.{Part, Book, book_floor}
+use Rattle.vt_steps.specs.promise.PartSteps.{part_after_commit}
+use Rattle.vt_steps.specs.inside.Cells.{in_book, act}
+use Rattle.vt_kernel.specs.inside.Held.{HeldWorker, StandsFor}
+use Rattle.vt_cells.specs.inside.Calls.{IsCellRefusal, IsHandInRefusal, AreOfOneWorld, CommitsTo}
+use Rattle.vt_places.specs.inside.Calls.{Visited, ShowsFloor}
 use Rattle.vt_places.proofs.CommitRelease.{committed-visited}
 use Rattle.vt_places.proofs.BookAt.{book-is, book-ends, book-kept, not-open, refused-once, one-world}
 use Rattle.vt_places.proofs.ReachLemmas.{reaches-visited}

@@ -1,15 +1,15 @@
 use Rattle.std.proofs.Common.{◌≡◌, ℕ, refl, sym, ap, subst, ◌∙◌}
 use Rattle.std.proofs.lemmas.Result.{IfErr-weaker}
 use Rattle.vt_model.specs.declared.settings.Config.{Config}
-use Rattle.vt_model.specs.Simulation.{simulation_of}
-use Rattle.vt_model.specs.Settings.{end_of}
+use Rattle.vt_model.specs.promise.Simulation.{simulation_of}
+use Rattle.vt_model.specs.promise.Settings.{end_of}
 use Rattle.vt_steps.specs.declared.step.Step.TheVariants.{Cut}
 use Rattle.vt_steps.specs.declared.step.Reply.TheVariants.{Done}
-use Rattle.vt_steps.specs.Cells.{Cell, on_board}
-use Rattle.vt_kernel.specs.Held.{HeldWorker}
-use Rattle.vt_cells.specs.Calls.{IsCellStepOf, IsCellRefusal}
+use Rattle.vt_steps.specs.inside.Cells.{Cell, on_board}
+use Rattle.vt_kernel.specs.inside.Held.{HeldWorker}
+use Rattle.vt_cells.specs.inside.Calls.{IsCellStepOf, IsCellRefusal}
 use Rattle.vt_places.specs.declared.slot.Slot.TheVariants as slot
-use Rattle.vt_places.specs.Calls.{Stays, IsCutRefusal}
+use Rattle.vt_places.specs.inside.Calls.{Stays, IsCutRefusal}
 use Rattle.vt_places.proofs.HeldLemmas.{found-is, found-right, puts}
 use Rattle.vt_places.proofs.PlaceLemmas.{refused, released}
 use Rattle.vt_places.proofs.Releases.{home-not_empty}

@@ -1,16 +1,16 @@
 use Rattle.std.proofs.Common.{inl, inr, ℕ, refl, sym, ap, subst, ◌∙◌}
 use Rattle.std.proofs.lemmas.Result.{IfErr-weaker}
 use Rattle.vt_model.specs.declared.settings.Config.{Config}
-use Rattle.vt_model.specs.Simulation.{simulation_of}
+use Rattle.vt_model.specs.promise.Simulation.{simulation_of}
 use Rattle.vt_steps.specs.declared.step.Step.TheVariants.{Fetch}
 use Rattle.vt_steps.specs.declared.step.Reply.TheVariants.{Done}
-use Rattle.vt_steps.specs.Cells.{Cell, in_inbox}
-use Rattle.vt_steps.specs.Letters.{Counts, is_empty}
-use Rattle.vt_kernel.specs.Held.{HeldWorker, AllOwnMail}
-use Rattle.vt_kernel.specs.Steps.{IsTooMuchMail}
-use Rattle.vt_cells.specs.Calls.{IsCellStepOf}
+use Rattle.vt_steps.specs.inside.Cells.{Cell, in_inbox}
+use Rattle.vt_steps.specs.promise.Letters.{Counts, is_empty}
+use Rattle.vt_kernel.specs.inside.Held.{HeldWorker, AllOwnMail}
+use Rattle.vt_kernel.specs.inside.Steps.{IsTooMuchMail}
+use Rattle.vt_cells.specs.inside.Calls.{IsCellStepOf}
 use Rattle.vt_places.specs.declared.slot.Slot.TheVariants.{Inbox}
-use Rattle.vt_places.specs.Calls.{Known, IsFetchRefusal}
+use Rattle.vt_places.specs.inside.Calls.{Known, IsFetchRefusal}
 use Rattle.vt_places.proofs.CallLemmas.{took-own, took-place, tried-there, tried-refused}
 use Rattle.vt_places.proofs.HeldLemmas.{found-is, found-right, puts}
 use Rattle.vt_places.proofs.PlaceLemmas.{rested, refused, released, looked}

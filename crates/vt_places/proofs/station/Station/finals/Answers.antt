@@ -1,13 +1,13 @@
 use Rattle.std.proofs.Common.{rules, ◌≡◌, ℕ, ◌∙◌, subst}
 use Rattle.std.specs.Prelude.{IfOk}
 use Rattle.std.proofs.lemmas.Result.{IfOk-weaker}
-use Rattle.vt_key.specs.Times.{TimeAtMost}
+use Rattle.vt_key.specs.promise.Times.{TimeAtMost}
 use Rattle.vt_model.specs.declared.settings.Config.{Config}
-use Rattle.vt_model.specs.Settings.{end_of}
-use Rattle.vt_model.specs.Simulation.{simulation_of}
+use Rattle.vt_model.specs.promise.Settings.{end_of}
+use Rattle.vt_model.specs.promise.Simulation.{simulation_of}
 use Rattle.vt_model.proofs.LawLemmas.{lawful_of}
-use Rattle.vt_steps.specs.Finals.{worker_finals}
-use Rattle.vt_places.specs.Calls.{IsShown, Reaches}
+use Rattle.vt_steps.specs.inside.Finals.{worker_finals}
+use Rattle.vt_places.specs.inside.Calls.{IsShown, Reaches}
 use Rattle.vt_places.proofs.FinalLemmas.{finals-right}
 use Rattle.vt_places.proofs.station.Station.finals.Goals as goal
 

@@ -1,7 +1,7 @@
 use Rattle.std.proofs.Common.{◌≡◌, []}
 use Rattle.vt_steps.specs.declared.step.Step.TheVariants.{Fetch}
 use Rattle.vt_steps.specs.declared.step.Reply.TheVariants.{Done}
-use Rattle.vt_places.specs.Calls.{Visited}
+use Rattle.vt_places.specs.inside.Calls.{Visited}
 use Rattle.vt_places.proofs.Keeps.{Looked}
 use Rattle.vt_places.proofs.station.Station.finds_nothing.Given as goal
 

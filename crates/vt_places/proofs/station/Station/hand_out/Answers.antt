@@ -1,10 +1,10 @@
 use Rattle.std.proofs.Common.{◌≡◌, ◌≤◌, ◌^◌, List, refl, ap, sym, subst, ◌∙◌, drop, length, inr}
-use Rattle.vt_key.specs.Times.{Time}
+use Rattle.vt_key.specs.promise.Times.{Time}
 use Rattle.vt_model.specs.declared.rows.Record.{Record}
-use Rattle.vt_model.specs.Simulation.{simulation_of}
-use Rattle.vt_steps.specs.World.{book_floor, book_records}
-use Rattle.vt_book.specs.Books.{RunBook}
-use Rattle.vt_places.specs.Calls.{AreRecordsShown}
+use Rattle.vt_model.specs.promise.Simulation.{simulation_of}
+use Rattle.vt_steps.specs.promise.World.{book_floor, book_records}
+use Rattle.vt_book.specs.inside.Books.{RunBook}
+use Rattle.vt_places.specs.inside.Calls.{AreRecordsShown}
 use Rattle.vt_places.proofs.CallLemmas.{unvisited-held}
 use Rattle.vt_places.proofs.BookAt.{shown-there}
 use Rattle.vt_places.proofs.station.Station.hand_out.Goals as goal

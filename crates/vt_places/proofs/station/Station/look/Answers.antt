@@ -1,5 +1,5 @@
-use Rattle.vt_model.specs.Simulation.{simulation_of}
-use Rattle.vt_places.specs.Slots.{word_at}
+use Rattle.vt_model.specs.promise.Simulation.{simulation_of}
+use Rattle.vt_places.specs.inside.Slots.{word_at}
 use Rattle.vt_places.proofs.Keeps.{reads}
 use Rattle.vt_places.proofs.station.Station.look.Goals as goal
 

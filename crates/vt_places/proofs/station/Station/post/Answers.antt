@@ -2,9 +2,9 @@ use Rattle.std.proofs.Common.{ℕ, refl, sym, subst, ◌∙◌, arith}
 use Rattle.vt_model.specs.declared.settings.Config.{Config}
 use Rattle.vt_steps.specs.declared.step.Step.TheVariants.{Send}
 use Rattle.vt_steps.specs.declared.step.Reply.TheVariants.{Done}
-use Rattle.vt_steps.specs.Cells.{in_inbox}
-use Rattle.vt_kernel.specs.Held.{HeldWorker, AllOwnMail}
-use Rattle.vt_cells.specs.Calls.{IsCellStepOf}
+use Rattle.vt_steps.specs.inside.Cells.{in_inbox}
+use Rattle.vt_kernel.specs.inside.Held.{HeldWorker, AllOwnMail}
+use Rattle.vt_cells.specs.inside.Calls.{IsCellStepOf}
 use Rattle.vt_places.specs.declared.slot.Slot.TheVariants.{Inbox}
 use Rattle.vt_places.proofs.ActLemmas.{sent-within}
 use Rattle.vt_places.proofs.CallLemmas.{took-inbox, took-place, tried-there}

@@ -1,6 +1,6 @@
 use Rattle.std.proofs.Common.{◌≡◌, []}
-use Rattle.vt_model.specs.Simulation.{simulation_of}
-use Rattle.vt_places.specs.Calls.{Closes}
+use Rattle.vt_model.specs.promise.Simulation.{simulation_of}
+use Rattle.vt_places.specs.inside.Calls.{Closes}
 use Rattle.vt_places.proofs.station.Station.release_close.Given as goal
 
 abbrev pub ghosts-store : goal.ghosts-store

@@ -1,5 +1,5 @@
 use Rattle.std.proofs.Common.{◌≡◌, []}
-use Rattle.vt_places.specs.Commits.{Commits}
+use Rattle.vt_places.specs.inside.Commits.{Commits}
 use Rattle.vt_places.proofs.station.Station.release_commit.Given as goal
 
 abbrev pub ghosts-store : goal.ghosts-store

@@ -1,4 +1,4 @@
-use Rattle.vt_places.specs.Slots.{home_word}
+use Rattle.vt_places.specs.inside.Slots.{home_word}
 use Rattle.vt_places.proofs.Releases.{home-not_claimed, home-not_empty, leaves-unvisited}
 use Rattle.vt_places.proofs.station.Station.release_unchanged.Goals as goal
 

@@ -1,5 +1,5 @@
 use Rattle.std.specs.Option.{unwrap_or}
-use Rattle.vt_places.specs.Calls.{Unvisited}
+use Rattle.vt_places.specs.inside.Calls.{Unvisited}
 use Rattle.vt_places.proofs.Releases.{GaveBack}
 use Rattle.vt_places.proofs.station.Station.release_unchanged.Given as goal
 

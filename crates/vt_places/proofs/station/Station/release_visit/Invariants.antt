@@ -1,5 +1,5 @@
 use Rattle.std.proofs.Common.{MatchResult}
-use Rattle.vt_places.specs.Calls.{Visited, Unvisited}
+use Rattle.vt_places.specs.inside.Calls.{Visited, Unvisited}
 use Rattle.vt_places.proofs.Releases.{GaveBack}
 use Rattle.vt_places.proofs.station.Station.release_visit.Given as goal
 

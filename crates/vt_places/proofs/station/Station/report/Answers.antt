@@ -2,16 +2,16 @@ use Rattle.std.proofs.Common.{◌≡◌, ℕ, refl, sym, ap, subst, ◌∙◌, R
 use Rattle.std.proofs.lemmas.Result.{IfErr-weaker}
 use Rattle.vt_key.specs.declared.fault.Fault.{Fault}
 use Rattle.vt_model.specs.declared.settings.Config.{Config}
-use Rattle.vt_model.specs.Simulation.{simulation_of}
-use Rattle.vt_model.specs.Settings.{end_of}
+use Rattle.vt_model.specs.promise.Simulation.{simulation_of}
+use Rattle.vt_model.specs.promise.Settings.{end_of}
 use Rattle.vt_steps.specs.declared.step.Step.TheVariants.{Report}
 use Rattle.vt_steps.specs.declared.step.Reply.{Reply}
-use Rattle.vt_steps.specs.Cells.{Cell, on_board}
-use Rattle.vt_kernel.specs.Held.{HeldWorker}
-use Rattle.vt_board.specs.Calls.{reply_of}
-use Rattle.vt_cells.specs.Calls.{IsCellStepOf, IsCellRefusal, answer_of}
+use Rattle.vt_steps.specs.inside.Cells.{Cell, on_board}
+use Rattle.vt_kernel.specs.inside.Held.{HeldWorker}
+use Rattle.vt_board.specs.inside.Calls.{reply_of}
+use Rattle.vt_cells.specs.inside.Calls.{IsCellStepOf, IsCellRefusal, answer_of}
 use Rattle.vt_places.specs.declared.slot.Slot.TheVariants as slot
-use Rattle.vt_places.specs.Calls.{Stays, IsReportRefusal}
+use Rattle.vt_places.specs.inside.Calls.{Stays, IsReportRefusal}
 use Rattle.vt_places.proofs.HeldLemmas.{found-is, found-right, puts}
 use Rattle.vt_places.proofs.PlaceLemmas.{refused, released}
 use Rattle.vt_places.proofs.Releases.{home-not_empty}

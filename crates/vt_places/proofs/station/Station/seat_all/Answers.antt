@@ -1,9 +1,9 @@
 use Rattle.std.proofs.Common.{arith, ◌≡◌, ◌+◌, [], ◌∷◌, ℕ, List, length, length-append, sym, ap, subst, ◌∙◌}
 use Rattle.vt_key.proofs.ResultLemmas.{if_refused}
-use Rattle.vt_model.specs.Simulation.{simulation_of}
+use Rattle.vt_model.specs.promise.Simulation.{simulation_of}
 use Rattle.vt_places.specs.declared.place.Place.{Place}
-use Rattle.vt_places.specs.Kept.{Sat}
-use Rattle.vt_places.specs.Making.{IsMaker, Opens, IsNew, AreNew}
+use Rattle.vt_places.specs.inside.Kept.{Sat}
+use Rattle.vt_places.specs.inside.Making.{IsMaker, Opens, IsNew, AreNew}
 use Rattle.vt_places.proofs.Opening.{maker-same, new-more}
 use Rattle.vt_places.proofs.station.Station.seat_all.Goals as goal
 

@@ -1,6 +1,6 @@
 use Rattle.std.proofs.Common.{◌≡◌, length, ◌+◌}
-use Rattle.vt_model.specs.Simulation.{simulation_of}
-use Rattle.vt_places.specs.Making.{IsMaker, AreNew}
+use Rattle.vt_model.specs.promise.Simulation.{simulation_of}
+use Rattle.vt_places.specs.inside.Making.{IsMaker, AreNew}
 use Rattle.vt_places.proofs.station.Station.seat_all.Given as goal
 
 abbrev pub invariant-loop-worker : goal.invariant-loop-worker

@@ -1,6 +1,6 @@
 use Rattle.std.proofs.Common.{arith, sym, subst, ◌∙◌}
-use Rattle.vt_model.specs.Simulation.{simulation_of}
-use Rattle.vt_places.specs.Making.{Opens}
+use Rattle.vt_model.specs.promise.Simulation.{simulation_of}
+use Rattle.vt_places.specs.inside.Making.{Opens}
 use Rattle.vt_places.proofs.Seating.{splits}
 use Rattle.vt_places.proofs.Opening.{some-left, maker-after, opens-next}
 use Rattle.vt_places.proofs.station.Station.seat_next.Goals as goal

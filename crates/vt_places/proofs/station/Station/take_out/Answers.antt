@@ -1,6 +1,6 @@
 use Rattle.std.proofs.Common.{◌≡◌, [], refl, sym, ap, ◌∙◌, drop, arith}
-use Rattle.vt_steps.specs.World.{book_floor, book_records}
-use Rattle.vt_book.specs.Books.{RunBook}
+use Rattle.vt_steps.specs.promise.World.{book_floor, book_records}
+use Rattle.vt_book.specs.inside.Books.{RunBook}
 use Rattle.vt_places.specs.declared.slot.Slot.TheVariants as slot
 use Rattle.vt_places.proofs.BookAt.{run-book}
 use Rattle.vt_places.proofs.RefusalLemmas as refusal

@@ -1,11 +1,11 @@
 use Rattle.std.proofs.Common.{IfOk, IfErr, subst}
-use Rattle.vt_model.specs.Simulation.{simulation_of}
+use Rattle.vt_model.specs.promise.Simulation.{simulation_of}
 use Rattle.vt_steps.specs.declared.step.Step.TheVariants.{Accept}
-use Rattle.vt_steps.specs.World.{Part}
-use Rattle.vt_steps.specs.Cells.{local_step}
-use Rattle.vt_kernel.specs.Held.{StandsFor}
-use Rattle.vt_kernel.specs.Guards.{IsDone, IsAcceptRefusal}
-use Rattle.vt_places.specs.AtWork.{AtWork}
+use Rattle.vt_steps.specs.promise.World.{Part}
+use Rattle.vt_steps.specs.inside.Cells.{local_step}
+use Rattle.vt_kernel.specs.inside.Held.{StandsFor}
+use Rattle.vt_kernel.specs.inside.Guards.{IsDone, IsAcceptRefusal}
+use Rattle.vt_places.specs.inside.AtWork.{AtWork}
 use Rattle.vt_places.proofs.WorkLemmas.{stepped-at-work}
 use Rattle.vt_places.proofs.worker.Worker.accept.Goals as goal
 

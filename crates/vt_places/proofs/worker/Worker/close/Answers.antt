@@ -1,8 +1,8 @@
 use Rattle.std.proofs.Common.{[], subst}
-use Rattle.vt_model.specs.Simulation.{simulation_of}
+use Rattle.vt_model.specs.promise.Simulation.{simulation_of}
 use Rattle.vt_steps.specs.declared.step.Step.TheVariants.{Close}
-use Rattle.vt_places.specs.AtWork.{AtWork}
-use Rattle.vt_places.specs.Calls.{IsRefusedAlone}
+use Rattle.vt_places.specs.inside.AtWork.{AtWork}
+use Rattle.vt_places.specs.inside.Calls.{IsRefusedAlone}
 use Rattle.vt_places.proofs.WorkLemmas.{closed-at-work}
 use Rattle.vt_places.proofs.worker.Worker.close.Goals as goal
 

@@ -1,11 +1,11 @@
 use Rattle.std.proofs.Common.{◌≡◌, ℕ, sym, ◌∙◌, subst, MatchResult}
-use Rattle.vt_key.specs.Times.{Time}
-use Rattle.vt_model.specs.Simulation.{simulation_of}
-use Rattle.vt_model.specs.Settings.{end_of}
+use Rattle.vt_key.specs.promise.Times.{Time}
+use Rattle.vt_model.specs.promise.Simulation.{simulation_of}
+use Rattle.vt_model.specs.promise.Settings.{end_of}
 use Rattle.vt_steps.specs.declared.step.Step.TheVariants.{Commit}
 use Rattle.vt_steps.specs.declared.step.Reply.TheVariants.{Done}
-use Rattle.vt_places.specs.AtWork.{AtWork}
-use Rattle.vt_places.specs.Calls.{Visited, Stays, ShowsFloor, IsFloorLeft}
+use Rattle.vt_places.specs.inside.AtWork.{AtWork}
+use Rattle.vt_places.specs.inside.Calls.{Visited, Stays, ShowsFloor, IsFloorLeft}
 use Rattle.vt_places.proofs.WorkLemmas.{kernel-ready, called-at-work, alone-at-work}
 use Rattle.vt_places.proofs.worker.Worker.commit.Goals as goal
 

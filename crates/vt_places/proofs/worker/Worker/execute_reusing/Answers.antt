@@ -1,6 +1,6 @@
 use Rattle.std.proofs.Common.{◌≡◌, subst}
 use Rattle.std.specs.Prelude.{IfErr}
-use Rattle.vt_places.specs.AtWork.{AtWork}
+use Rattle.vt_places.specs.inside.AtWork.{AtWork}
 use Rattle.vt_steps.specs.declared.step.Step.TheVariants.{Execute}
 use Rattle.vt_places.proofs.WorkLemmas.{stepped-at-work}
 use Rattle.vt_places.proofs.worker.Worker.execute_reusing.Goals as goal

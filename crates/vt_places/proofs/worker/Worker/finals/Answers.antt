@@ -1,8 +1,8 @@
 use Rattle.std.proofs.Common.{◌≡◌, subst}
 use Rattle.std.specs.Prelude.{IfOk}
-use Rattle.vt_model.specs.Simulation.{simulation_of}
-use Rattle.vt_steps.specs.Finals.{worker_finals}
-use Rattle.vt_places.specs.AtWork.{AtWork}
+use Rattle.vt_model.specs.promise.Simulation.{simulation_of}
+use Rattle.vt_steps.specs.inside.Finals.{worker_finals}
+use Rattle.vt_places.specs.inside.AtWork.{AtWork}
 use Rattle.vt_places.proofs.WorkLemmas.{kernel-ready, read-at-work, finals-at-work}
 use Rattle.vt_places.proofs.worker.Worker.finals.Goals as goal
 

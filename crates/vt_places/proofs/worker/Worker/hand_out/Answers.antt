@@ -1,5 +1,5 @@
-use Rattle.vt_model.specs.Simulation.{simulation_of}
-use Rattle.vt_places.specs.Calls.{AreHandedOut}
+use Rattle.vt_model.specs.promise.Simulation.{simulation_of}
+use Rattle.vt_places.specs.inside.Calls.{AreHandedOut}
 use Rattle.vt_places.proofs.ReachLemmas.{reaches-shown}
 use Rattle.vt_places.proofs.WorkLemmas.{stays-at-work}
 use Rattle.vt_places.proofs.worker.Worker.hand_out.Goals as goal

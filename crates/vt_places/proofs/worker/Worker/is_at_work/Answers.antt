@@ -1,6 +1,6 @@
 use Rattle.std.proofs.Common.{subst}
-use Rattle.vt_places.specs.AtWork.{AtWork}
-use Rattle.vt_places.specs.Calls.{Reaches}
+use Rattle.vt_places.specs.inside.AtWork.{AtWork}
+use Rattle.vt_places.specs.inside.Calls.{Reaches}
 use Rattle.vt_places.proofs.worker.Worker.is_at_work.Goals as goal
 
 pub returns : goal.returns

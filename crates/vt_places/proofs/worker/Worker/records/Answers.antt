@@ -1,5 +1,5 @@
-use Rattle.vt_model.specs.Simulation.{simulation_of}
-use Rattle.vt_places.specs.Calls.{AreRecordsShown}
+use Rattle.vt_model.specs.promise.Simulation.{simulation_of}
+use Rattle.vt_places.specs.inside.Calls.{AreRecordsShown}
 use Rattle.vt_places.proofs.ReachLemmas.{reaches-shown}
 use Rattle.vt_places.proofs.WorkLemmas.{stays-at-work}
 use Rattle.vt_places.proofs.worker.Worker.records.Goals as goal

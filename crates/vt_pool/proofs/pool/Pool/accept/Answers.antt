@@ -1,14 +1,14 @@
 use Rattle.std.proofs.Common.{◌≡◌, ◌∙◌, sym, ap, subst}
-use Rattle.vt_key.specs.Order.{rank_before}
-use Rattle.vt_key.specs.Queues.{insert_letter, letter_rank}
+use Rattle.vt_key.specs.promise.Order.{rank_before}
+use Rattle.vt_key.specs.promise.Queues.{insert_letter, letter_rank}
 use Rattle.vt_key.specs.declared.letter.Letter.{Letter}
 use Rattle.vt_key.specs.declared.letter.Sign.{Sign}
 use Rattle.vt_key.specs.declared.letter.Sign.TheVariants.{Plus}
 use Rattle.vt_key.proofs.ListLemmas.{every-insert_ordered}
-use Rattle.vt_pool.specs.Inside.{AreSettled, ComesAfter, IsWorkersLetter}
-use Rattle.vt_pool.specs.Pool.{holds_stamp, with_letter}
-use Rattle.vt_pool.specs.Share.{HeldPool, PoolLeadsTo}
-use Rattle.vt_pool.specs.Steps.{received_in}
+use Rattle.vt_pool.specs.inside.Inside.{AreSettled, ComesAfter, IsWorkersLetter}
+use Rattle.vt_pool.specs.inside.Pool.{holds_stamp, with_letter}
+use Rattle.vt_pool.specs.inside.Share.{HeldPool, PoolLeadsTo}
+use Rattle.vt_pool.specs.inside.Steps.{received_in}
 use Rattle.vt_pool.proofs.ForceLemmas.{pool-both, pool-nothing}
 use Rattle.vt_pool.proofs.HoldLemmas.{new-past, new-pending}
 use Rattle.vt_pool.proofs.pool.Pool.accept.Goals as goal

@@ -1,12 +1,12 @@
 use Rattle.std.proofs.Common.{rules, ◌≡◌, ◌∙◌, ◌≤◌, inr, List, map, ap, subst, sym, arith, find, Some}
-use Rattle.vt_key.specs.Queues.{has_rank, without_first}
+use Rattle.vt_key.specs.promise.Queues.{has_rank, without_first}
 use Rattle.vt_key.specs.declared.letter.Letter.{Letter}
 use Rattle.vt_model.specs.declared.process.Process.{Process}
-use Rattle.vt_model.specs.Process.{triple_at}
-use Rattle.vt_pool.specs.Logged.{placed}
-use Rattle.vt_pool.specs.Pool.{with_waiting}
-use Rattle.vt_pool.specs.Share.{HeldPool}
-use Rattle.vt_pool.specs.Inside.{IsPoolInside}
+use Rattle.vt_model.specs.inside.Process.{triple_at}
+use Rattle.vt_pool.specs.inside.Logged.{placed}
+use Rattle.vt_pool.specs.inside.Pool.{with_waiting}
+use Rattle.vt_pool.specs.inside.Share.{HeldPool}
+use Rattle.vt_pool.specs.inside.Inside.{IsPoolInside}
 use Rattle.vt_pool.proofs.PoolLemmas.{pool-waiting_taken}
 use Rattle.vt_pool.proofs.pool.Pool.cancel.Goals as goal
 

@@ -1,8 +1,8 @@
 use Rattle.std.proofs.Common.{◌≡◌, ◌<◌, ◌≤◌, ℕ, List, length, filter, IfSome, IfNone, subst}
 use Rattle.vt_key.specs.declared.letter.Letter.{Letter}
 use Rattle.vt_model.specs.declared.settings.Config.{Config}
-use Rattle.vt_steps.specs.PartSteps.{is_for}
-use Rattle.vt_pool.specs.Share.{HeldPool}
+use Rattle.vt_steps.specs.promise.PartSteps.{is_for}
+use Rattle.vt_pool.specs.inside.Share.{HeldPool}
 use Rattle.vt_pool.proofs.pool.Pool.count_for.Goals as goal
 
 pub returns-clause-count : goal.returns-clause-count

@@ -1,12 +1,12 @@
 use Rattle.std.proofs.Common.{◌≡◌, ◌∙◌, ◌<◌, length, ap, subst, sym, arith, not, false, None}
 use Rattle.std.specs.List.{last_or}
 use Rattle.std.proofs.lemmas.List.{length-map}
-use Rattle.vt_key.specs.Order.{rank_before}
+use Rattle.vt_key.specs.promise.Order.{rank_before}
 use Rattle.vt_logs.specs.declared.entry.Entry.{Entry}
 use Rattle.vt_model.specs.declared.process.Process.{Process}
-use Rattle.vt_model.specs.Process.{triple_at}
-use Rattle.vt_pool.specs.View.{past_at}
-use Rattle.vt_pool.specs.Share.{HeldPool}
+use Rattle.vt_model.specs.inside.Process.{triple_at}
+use Rattle.vt_pool.specs.inside.View.{past_at}
+use Rattle.vt_pool.specs.inside.Share.{HeldPool}
 use Rattle.vt_pool.proofs.LoggedLemmas.{ends_from, ends-here, ends-nowhere}
 use Rattle.vt_pool.proofs.pool.Pool.ends_from.Goals as goal
 

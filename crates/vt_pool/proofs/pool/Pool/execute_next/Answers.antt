@@ -2,39 +2,39 @@ use Rattle.std.proofs.Common.{rules, ◌≡◌, ◌∙◌, ◌+◌, ◌*◌, ◌
 use Rattle.std.specs.List.{sum_by, AllByRecursion}
 use Rattle.std.proofs.Math.ListN.{length-set}
 use Rattle.std.proofs.lemmas.List.{length-map, map-append}
-use Rattle.vt_key.specs.Times.{TimeAtMost}
-use Rattle.vt_key.specs.Order.{RankBefore}
-use Rattle.vt_key.specs.Queues.{letter_rank}
+use Rattle.vt_key.specs.promise.Times.{TimeAtMost}
+use Rattle.vt_key.specs.inside.Order.{RankBefore}
+use Rattle.vt_key.specs.promise.Queues.{letter_rank}
 use Rattle.vt_key.specs.declared.limits.TheConstants.{MAX_COUNT}
 use Rattle.vt_key.specs.declared.letter.Letter.{Letter}
 use Rattle.vt_key.specs.declared.letter.Sign.TheVariants.{Plus}
 use Rattle.vt_key.proofs.ListLemmas.{every-append, every-get, every-weaker}
-use Rattle.vt_stream.specs.Words.{Stream}
+use Rattle.vt_stream.specs.inside.Words.{Stream}
 use Rattle.vt_model.specs.declared.limits.TheConstants.{MAX_SENDS}
 use Rattle.vt_model.specs.declared.sending.Sent.{Sent}
 use Rattle.vt_model.specs.declared.process.Process.{Process}
-use Rattle.vt_model.specs.Process.{triple_at, IsProcessStream}
-use Rattle.vt_model.specs.Settings.{end_of}
-use Rattle.vt_model.specs.Simulation.{Triple, simulation_of}
+use Rattle.vt_model.specs.inside.Process.{triple_at, IsProcessStream}
+use Rattle.vt_model.specs.promise.Settings.{end_of}
+use Rattle.vt_model.specs.promise.Simulation.{Triple, simulation_of}
 use Rattle.vt_model.proofs.Sizes.{out_fits}
 use Rattle.vt_pending.proofs.Filters.{insert-first}
-use Rattle.vt_steps.specs.Letters.{stamped, signed}
-use Rattle.vt_steps.specs.StandsFor.{IsRemembered}
-use Rattle.vt_steps.specs.World.{Part}
-use Rattle.vt_lp.specs.Held.{remembered}
-use Rattle.vt_lp.specs.Past.{IsAdvanceRefusal}
+use Rattle.vt_steps.specs.promise.Letters.{stamped, signed}
+use Rattle.vt_steps.specs.inside.StandsFor.{IsRemembered}
+use Rattle.vt_steps.specs.promise.World.{Part}
+use Rattle.vt_lp.specs.inside.Held.{remembered}
+use Rattle.vt_lp.specs.inside.Past.{IsAdvanceRefusal}
 use Rattle.vt_lp.proofs.Ends.{none-after}
-use Rattle.vt_logs.specs.Events.{Logged}
-use Rattle.vt_kernel.specs.Held.{StandsFor}
+use Rattle.vt_logs.specs.inside.Events.{Logged}
+use Rattle.vt_kernel.specs.inside.Held.{StandsFor}
 use Rattle.vt_kernel.proofs.ProcessLemmas.{map-put, get-map_of}
 use Rattle.vt_kernel.proofs.LocalLemmas.{index-get, written-same}
 use Rattle.vt_pool.specs.declared.pool.Pool.TheInside.{Inside}
-use Rattle.vt_pool.specs.View.{Stock, number_at}
-use Rattle.vt_pool.specs.Steps.{executed_in}
-use Rattle.vt_pool.specs.Logged.{placed, AreMade}
-use Rattle.vt_pool.specs.Inside.{AreSettled, IsHeard, IsPoolInside, nodes_of}
-use Rattle.vt_pool.specs.Share.{HeldShare, HeldPool, PoolLeadsTo, with_pool, seen}
-use Rattle.vt_pool.specs.Executing.{AreDelivered, past_of, fired_by, pool_after_execute, IsFired, HasExecuted, IsNotExecuted}
+use Rattle.vt_pool.specs.inside.View.{Stock, number_at}
+use Rattle.vt_pool.specs.inside.Steps.{executed_in}
+use Rattle.vt_pool.specs.inside.Logged.{placed, AreMade}
+use Rattle.vt_pool.specs.inside.Inside.{AreSettled, IsHeard, IsPoolInside, nodes_of}
+use Rattle.vt_pool.specs.inside.Share.{HeldShare, HeldPool, PoolLeadsTo, with_pool, seen}
+use Rattle.vt_pool.specs.inside.Executing.{AreDelivered, past_of, fired_by, pool_after_execute, IsFired, HasExecuted, IsNotExecuted}
 use Rattle.vt_pool.proofs.ForceLemmas.{pool-nothing, pool-both}
 use Rattle.vt_pool.proofs.SettleLemmas.{executed-settled}
 use Rattle.vt_pool.proofs.PoolLemmas.{streams-get}

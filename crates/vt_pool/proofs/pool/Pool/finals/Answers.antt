@@ -2,9 +2,9 @@ use Rattle.std.proofs.Common.{◌≡◌, ◌∙◌, suc, ◌+◌, ◌*◌, Some,
 use Rattle.std.proofs.Math.Nat.{suc-mul}
 use Rattle.std.proofs.lemmas.Option.{slice_get-get_or}
 use Rattle.vt_model.specs.declared.process.Process.{Process}
-use Rattle.vt_model.specs.Process.{triple_at}
+use Rattle.vt_model.specs.inside.Process.{triple_at}
 use Rattle.vt_kernel.proofs.ProcessLemmas.{get-map_of}
-use Rattle.vt_pool.specs.Share.{HeldPool}
+use Rattle.vt_pool.specs.inside.Share.{HeldPool}
 use Rattle.vt_pool.proofs.FinalLemmas.{values-next}
 use Rattle.vt_pool.proofs.pool.Pool.finals.Goals as goal
 

@@ -1,6 +1,6 @@
 use Rattle.std.proofs.Common.{◌≡◌, take}
-use Rattle.vt_kernel.specs.Held.{held_values}
-use Rattle.vt_pool.specs.View.{number_at, processes_from}
+use Rattle.vt_kernel.specs.inside.Held.{held_values}
+use Rattle.vt_pool.specs.inside.View.{number_at, processes_from}
 use Rattle.vt_pool.proofs.pool.Pool.finals.Given as goal
 
 abbrev pub invariant-loop-process : goal.invariant-loop-process

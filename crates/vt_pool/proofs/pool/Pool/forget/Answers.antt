@@ -1,13 +1,13 @@
 use Rattle.std.proofs.Common.{◌≡◌, ◌∙◌, ◌+◌, ◌≤◌, List, length, map, sym, ap, subst}
 use Rattle.vt_key.proofs.ListLemmas.{every-filter}
 use Rattle.vt_model.specs.declared.process.Process.{Process}
-use Rattle.vt_model.specs.Process.{triple_at}
-use Rattle.vt_logs.specs.Events.{Logged, is_above}
-use Rattle.vt_pool.specs.View.{Placed}
-use Rattle.vt_pool.specs.Forgotten.{unripe_placed, forgotten_in}
-use Rattle.vt_pool.specs.Inside.{IsPoolInside}
-use Rattle.vt_pool.specs.Logged.{placed, AreMade}
-use Rattle.vt_pool.specs.Share.{HeldPool}
+use Rattle.vt_model.specs.inside.Process.{triple_at}
+use Rattle.vt_logs.specs.inside.Events.{Logged, is_above}
+use Rattle.vt_pool.specs.inside.View.{Placed}
+use Rattle.vt_pool.specs.inside.Forgotten.{unripe_placed, forgotten_in}
+use Rattle.vt_pool.specs.inside.Inside.{IsPoolInside}
+use Rattle.vt_pool.specs.inside.Logged.{placed, AreMade}
+use Rattle.vt_pool.specs.inside.Share.{HeldPool}
 use Rattle.vt_pool.proofs.CommitLemmas.{in-order, placed-above, pool-forgotten}
 use Rattle.vt_pool.proofs.pool.Pool.forget.Goals as goal
 

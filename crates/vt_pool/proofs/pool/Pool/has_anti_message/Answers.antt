@@ -1,8 +1,8 @@
 use Rattle.std.proofs.Common.{◌≡◌, true, false, sym, subst}
-use Rattle.vt_key.specs.Queues.{has_stamp}
+use Rattle.vt_key.specs.promise.Queues.{has_stamp}
 use Rattle.vt_key.specs.declared.letter.Sign.TheVariants.{Minus}
-use Rattle.vt_pool.specs.Pool.{holds_stamp}
-use Rattle.vt_pool.specs.Share.{HeldPool}
+use Rattle.vt_pool.specs.inside.Pool.{holds_stamp}
+use Rattle.vt_pool.specs.inside.Share.{HeldPool}
 use Rattle.vt_pool.proofs.HoldLemmas.{any-found, any-none}
 use Rattle.vt_pool.proofs.pool.Pool.has_anti_message.Goals as goal
 

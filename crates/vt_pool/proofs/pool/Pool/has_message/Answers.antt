@@ -1,12 +1,12 @@
 use Rattle.std.proofs.Common.{◌≡◌, ◌∙◌, ◌||◌, Bool, map, sym, ap, subst}
 use Rattle.std.specs.List.{list_any}
-use Rattle.vt_key.specs.Order.{stamp_same}
+use Rattle.vt_key.specs.promise.Order.{stamp_same}
 use Rattle.vt_key.specs.declared.letter.Sign.TheVariants.{Plus}
-use Rattle.vt_pool.specs.View.{Placed}
-use Rattle.vt_pool.specs.Inside.{placed_rank}
-use Rattle.vt_pool.specs.Logged.{placed}
-use Rattle.vt_pool.specs.Pool.{holds_stamp}
-use Rattle.vt_pool.specs.Share.{HeldPool}
+use Rattle.vt_pool.specs.inside.View.{Placed}
+use Rattle.vt_pool.specs.inside.Inside.{placed_rank}
+use Rattle.vt_pool.specs.inside.Logged.{placed}
+use Rattle.vt_pool.specs.inside.Pool.{holds_stamp}
+use Rattle.vt_pool.specs.inside.Share.{HeldPool}
 use Rattle.vt_pool.proofs.HoldLemmas.{any-map}
 use Rattle.vt_pool.proofs.pool.Pool.has_message.Goals as goal
 

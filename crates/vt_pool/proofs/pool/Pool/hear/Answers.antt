@@ -3,11 +3,11 @@ use Rattle.std.proofs.Math.ListN.{length-set}
 use Rattle.std.proofs.lemmas.Option.{slice_get_read}
 use Rattle.vt_key.specs.declared.letter.Sign.TheVariants.{Plus}
 use Rattle.vt_model.specs.declared.process.Process.{Process}
-use Rattle.vt_model.specs.Process.{triple_at}
-use Rattle.vt_pool.specs.View.{Stock}
-use Rattle.vt_pool.specs.Logged.{placed}
-use Rattle.vt_pool.specs.Pool.{holds_stamp}
-use Rattle.vt_pool.specs.Share.{HeldPool}
+use Rattle.vt_model.specs.inside.Process.{triple_at}
+use Rattle.vt_pool.specs.inside.View.{Stock}
+use Rattle.vt_pool.specs.inside.Logged.{placed}
+use Rattle.vt_pool.specs.inside.Pool.{holds_stamp}
+use Rattle.vt_pool.specs.inside.Share.{HeldPool}
 use Rattle.vt_pool.proofs.HoldLemmas.{not-held}
 use Rattle.vt_pool.proofs.KeptLemmas.{now-heard, still-heard}
 use Rattle.vt_pool.proofs.PoolLemmas.{pool-heard}

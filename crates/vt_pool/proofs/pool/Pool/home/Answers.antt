@@ -1,11 +1,11 @@
 use Rattle.std.proofs.Common.{◌≡◌, ◌∙◌, false, find, arith, sym, subst, Some}
-use Rattle.vt_key.specs.Queues.{letter_rank}
+use Rattle.vt_key.specs.promise.Queues.{letter_rank}
 use Rattle.vt_key.specs.declared.letter.Letter.{Letter}
-use Rattle.vt_model.specs.Settings.{end_of}
-use Rattle.vt_steps.specs.PartSteps.{is_for}
-use Rattle.vt_lp.specs.Held.{IsWithinRun}
-use Rattle.vt_pool.specs.Share.{HeldPool, PoolLeadsTo}
-use Rattle.vt_pool.specs.Pool.{MayCome, holds_stamp, with_letter}
+use Rattle.vt_model.specs.promise.Settings.{end_of}
+use Rattle.vt_steps.specs.promise.PartSteps.{is_for}
+use Rattle.vt_lp.specs.inside.Held.{IsWithinRun}
+use Rattle.vt_pool.specs.inside.Share.{HeldPool, PoolLeadsTo}
+use Rattle.vt_pool.specs.inside.Pool.{MayCome, holds_stamp, with_letter}
 use Rattle.vt_pool.proofs.ForceLemmas.{pool-nothing, pool-both}
 use Rattle.vt_pool.proofs.HomeLemmas.{home-may-come, home-weight, home-pool-leads}
 use Rattle.vt_pool.proofs.pool.Pool.home.Given.{Over}

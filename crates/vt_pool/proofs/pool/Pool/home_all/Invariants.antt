@@ -1,7 +1,7 @@
 use Rattle.std.proofs.Common.{◌≡◌}
-use Rattle.vt_pool.specs.Inside.{AreSettled}
-use Rattle.vt_pool.specs.Share.{PoolLeadsTo}
-use Rattle.vt_pool.specs.Pool.{weight_of}
+use Rattle.vt_pool.specs.inside.Inside.{AreSettled}
+use Rattle.vt_pool.specs.inside.Share.{PoolLeadsTo}
+use Rattle.vt_pool.specs.inside.Pool.{weight_of}
 use Rattle.vt_pool.proofs.pool.Pool.home_all.Given as goal
 
 abbrev pub invariant-loop : goal.invariant-loop

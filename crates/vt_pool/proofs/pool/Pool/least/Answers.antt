@@ -1,16 +1,16 @@
 use Rattle.std.proofs.Common.{◌≡◌, ◌∙◌, ◌++◌, List, map, sym, ap, subst}
 use Rattle.std.specs.Option.{option_map_or}
-use Rattle.vt_key.specs.Times.{Time, earlier}
+use Rattle.vt_key.specs.promise.Times.{Time, earlier}
 use Rattle.vt_key.specs.declared.letter.Letter.{Letter}
 use Rattle.vt_key.specs.declared.letter.Sign.TheVariants.{Plus, Minus}
 use Rattle.vt_model.specs.declared.process.Process.{Process}
-use Rattle.vt_model.specs.Process.{triple_at}
-use Rattle.vt_model.specs.Settings.{end_of}
-use Rattle.vt_steps.specs.Letters.{least_time}
+use Rattle.vt_model.specs.inside.Process.{triple_at}
+use Rattle.vt_model.specs.promise.Settings.{end_of}
+use Rattle.vt_steps.specs.promise.Letters.{least_time}
 use Rattle.vt_steps.proofs.TimeLemmas.{least_time-append}
-use Rattle.vt_pool.specs.Inside.{IsPoolInside}
-use Rattle.vt_pool.specs.Logged.{placed}
-use Rattle.vt_pool.specs.Share.{HeldPool}
+use Rattle.vt_pool.specs.inside.Inside.{IsPoolInside}
+use Rattle.vt_pool.specs.inside.Logged.{placed}
+use Rattle.vt_pool.specs.inside.Share.{HeldPool}
 use Rattle.vt_pool.proofs.LeastLemmas.{least-rising, soon-all}
 use Rattle.vt_pool.proofs.pool.Pool.least.Goals as goal
 

@@ -1,24 +1,24 @@
 use Rattle.std.proofs.Common.{◌≡◌, ◌∙◌, ◌++◌, ℕ, Bool, List, not, length, map, sym, ap, subst, rules, arith}
 use Rattle.std.specs.List.{filter}
 use Rattle.std.proofs.lemmas.List.Elements.{All-filter}
-use Rattle.vt_key.specs.Times.{earlier}
+use Rattle.vt_key.specs.promise.Times.{earlier}
 use Rattle.vt_key.specs.declared.fault.Fault.{Fault}
 use Rattle.vt_key.specs.declared.letter.Letter.{Letter}
 use Rattle.vt_key.proofs.ResultLemmas.{if_err}
 use Rattle.vt_model.specs.declared.process.Process.{Process}
 use Rattle.vt_model.specs.declared.settings.Config.{Config}
-use Rattle.vt_model.specs.Process.{triple_at}
-use Rattle.vt_model.specs.Settings.{end_of}
-use Rattle.vt_steps.specs.Letters.{least_time}
-use Rattle.vt_steps.specs.PartSteps.{is_for}
-use Rattle.vt_lp.specs.Held.{AllWithinRun, IsWithinRun}
-use Rattle.vt_outbox.specs.Outbox.{HeldOutbox}
+use Rattle.vt_model.specs.inside.Process.{triple_at}
+use Rattle.vt_model.specs.promise.Settings.{end_of}
+use Rattle.vt_steps.specs.promise.Letters.{least_time}
+use Rattle.vt_steps.specs.promise.PartSteps.{is_for}
+use Rattle.vt_lp.specs.inside.Held.{AllWithinRun, IsWithinRun}
+use Rattle.vt_outbox.specs.inside.Outbox.{HeldOutbox}
 use Rattle.vt_outbox.proofs.OutboxLemmas.{receiver-below}
-use Rattle.vt_kernel.specs.Held.{AllOwnMail}
-use Rattle.vt_kernel.specs.Guards.{mailed}
+use Rattle.vt_kernel.specs.inside.Held.{AllOwnMail}
+use Rattle.vt_kernel.specs.inside.Guards.{mailed}
 use Rattle.vt_kernel.proofs.SendLemmas.{IsRoomRefusal, own_mail-sent}
-use Rattle.vt_pool.specs.Logged.{placed}
-use Rattle.vt_pool.specs.Share.{HeldPool}
+use Rattle.vt_pool.specs.inside.Logged.{placed}
+use Rattle.vt_pool.specs.inside.Share.{HeldPool}
 use Rattle.vt_pool.proofs.LeavingLemmas.{pool-with}
 use Rattle.vt_pool.proofs.pool.Pool.mail_for.Goals as goal
 

@@ -1,14 +1,14 @@
 use Rattle.std.proofs.Common.{◌≡◌, ◌∙◌, List, map, ap, subst, sym}
 use Rattle.std.specs.List.{AllByRecursion}
-use Rattle.vt_key.specs.Queues.{letter_rank, insert_letter}
+use Rattle.vt_key.specs.promise.Queues.{letter_rank, insert_letter}
 use Rattle.vt_key.specs.declared.letter.Letter.{Letter}
 use Rattle.vt_key.specs.declared.letter.Sign.TheVariants.{Minus}
 use Rattle.vt_model.specs.declared.process.Process.{Process}
-use Rattle.vt_model.specs.Process.{triple_at}
-use Rattle.vt_pool.specs.Logged.{placed}
-use Rattle.vt_pool.specs.Pool.{with_waiting}
-use Rattle.vt_pool.specs.Share.{HeldPool}
-use Rattle.vt_pool.specs.Inside.{IsWorkersLetter, IsPoolInside}
+use Rattle.vt_model.specs.inside.Process.{triple_at}
+use Rattle.vt_pool.specs.inside.Logged.{placed}
+use Rattle.vt_pool.specs.inside.Pool.{with_waiting}
+use Rattle.vt_pool.specs.inside.Share.{HeldPool}
+use Rattle.vt_pool.specs.inside.Inside.{IsWorkersLetter, IsPoolInside}
 use Rattle.vt_pool.proofs.PoolLemmas.{pool-anti_message}
 use Rattle.vt_pool.proofs.pool.Pool.put_waiting.Goals as goal
 

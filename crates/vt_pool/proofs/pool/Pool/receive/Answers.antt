@@ -1,6 +1,6 @@
 use Rattle.std.proofs.Common.{◌∙◌, ap, sym, subst}
 use Rattle.vt_key.specs.declared.letter.Letter.{Letter}
-use Rattle.vt_pool.specs.Share.{HeldPool, PoolLeadsTo}
+use Rattle.vt_pool.specs.inside.Share.{HeldPool, PoolLeadsTo}
 use Rattle.vt_pool.proofs.ReceiveLemmas.{message-new, message-not_past, message-came, anti_message-new, anti_message-came}
 use Rattle.vt_pool.proofs.pool.Pool.receive.Goals as goal
 

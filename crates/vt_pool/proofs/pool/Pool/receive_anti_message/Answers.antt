@@ -1,11 +1,11 @@
 use Rattle.std.proofs.Common.{◌≡◌, ◌∙◌, ◌<◌, ◌/◌, ◌%◌, List, length, inr, ap, arith, subst, sym}
-use Rattle.vt_key.specs.Queues.{letter_rank, insert_letter}
-use Rattle.vt_key.specs.Lists.{Among}
+use Rattle.vt_key.specs.promise.Queues.{letter_rank, insert_letter}
+use Rattle.vt_key.specs.promise.Lists.{Among}
 use Rattle.vt_key.specs.declared.letter.Letter.{Letter}
 use Rattle.vt_model.specs.declared.settings.Config.{Config}
-use Rattle.vt_pool.specs.View.{number_at}
-use Rattle.vt_pool.specs.Share.{HeldPool, AreSettledBut, PoolLeadsTo}
-use Rattle.vt_pool.specs.Pool.{weight_of, with_waiting}
+use Rattle.vt_pool.specs.inside.View.{number_at}
+use Rattle.vt_pool.specs.inside.Share.{HeldPool, AreSettledBut, PoolLeadsTo}
+use Rattle.vt_pool.specs.inside.Pool.{weight_of, with_waiting}
 use Rattle.vt_pool.proofs.SettleLemmas.{settled-but, settled-by-all}
 use Rattle.vt_pool.proofs.ForceLemmas.{pool-both}
 use Rattle.vt_pool.proofs.ReceiveLemmas.{number-of, place-there, among-inserted, cancel-may-lead, cancel-stays-settled, cancel-same}

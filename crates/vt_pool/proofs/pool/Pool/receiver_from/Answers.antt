@@ -1,8 +1,8 @@
 use Rattle.std.proofs.Common.{◌≡◌, ◌<◌, ◌≤◌, ℕ, List, true, false, IfSome, IfNone, subst}
 use Rattle.vt_key.specs.declared.letter.Letter.{Letter}
 use Rattle.vt_model.specs.declared.settings.Config.{Config}
-use Rattle.vt_steps.specs.CellSteps.{may_send}
-use Rattle.vt_pool.specs.Share.{HeldPool}
+use Rattle.vt_steps.specs.promise.CellSteps.{may_send}
+use Rattle.vt_pool.specs.inside.Share.{HeldPool}
 use Rattle.vt_pool.proofs.pool.Pool.receiver_from.Goals as goal
 
 pub returns-clause-first : goal.returns-clause-first

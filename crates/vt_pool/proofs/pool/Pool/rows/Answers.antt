@@ -1,7 +1,7 @@
 use Rattle.std.proofs.Common.{◌≡◌, ◌∙◌, List, IfOk, ap, subst}
 use Rattle.vt_model.specs.declared.rows.Row.{Row}
-use Rattle.vt_pool.specs.Forgotten.{rows_of_placed}
-use Rattle.vt_pool.specs.Share.{HeldPool}
+use Rattle.vt_pool.specs.inside.Forgotten.{rows_of_placed}
+use Rattle.vt_pool.specs.inside.Share.{HeldPool}
 use Rattle.vt_pool.proofs.CommitLemmas.{rows-placed}
 use Rattle.vt_pool.proofs.pool.Pool.rows.Goals as goal
 

@@ -1,10 +1,11 @@
 use Rattle.std.proofs.Common.{◌≡◌, ◌∙◌, List, map, ap, subst, sym}
-use Rattle.vt_key.specs.Queues.{letter_rank, has_rank, holds_rank, insert_letter, without_first}
+use Rattle.vt_key.specs.promise.Queues.{letter_rank, has_rank, insert_letter, without_first}
+use Rattle.vt_key.specs.inside.Queues.{holds_rank}
 use Rattle.vt_key.specs.declared.letter.Letter.{Letter}
 use Rattle.vt_model.specs.declared.process.Process.{Process}
-use Rattle.vt_model.specs.Process.{triple_at}
-use Rattle.vt_pool.specs.Logged.{placed}
-use Rattle.vt_pool.specs.Inside.{IsPoolInside}
+use Rattle.vt_model.specs.inside.Process.{triple_at}
+use Rattle.vt_pool.specs.inside.Logged.{placed}
+use Rattle.vt_pool.specs.inside.Inside.{IsPoolInside}
 use Rattle.vt_pool.proofs.PoolLemmas.{pool-taken}
 use Rattle.vt_outbox.proofs.OutboxLemmas.{without-none}
 use Rattle.vt_pool.proofs.TakeLemmas.{put-back, taken-apart}

@@ -1,8 +1,8 @@
 use Rattle.std.proofs.Common.{subst, IfSome}
-use Rattle.vt_model.specs.Settings.{end_of}
-use Rattle.vt_steps.specs.PartSteps.{is_for}
-use Rattle.vt_lp.specs.Held.{IsWithinRun}
-use Rattle.vt_pool.specs.Share.{HeldPool}
+use Rattle.vt_model.specs.promise.Settings.{end_of}
+use Rattle.vt_steps.specs.promise.PartSteps.{is_for}
+use Rattle.vt_lp.specs.inside.Held.{IsWithinRun}
+use Rattle.vt_pool.specs.inside.Share.{HeldPool}
 use Rattle.vt_pool.proofs.HomeLemmas.{found-has}
 use Rattle.vt_pool.proofs.PoolLemmas.{pool-left}
 use Rattle.vt_pool.proofs.pool.Pool.take_home.Goals as goal

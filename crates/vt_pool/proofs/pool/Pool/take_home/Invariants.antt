@@ -1,5 +1,5 @@
-use Rattle.vt_key.specs.Queues.{without_first}
-use Rattle.vt_steps.specs.PartSteps.{is_for}
+use Rattle.vt_key.specs.promise.Queues.{without_first}
+use Rattle.vt_steps.specs.promise.PartSteps.{is_for}
 use Rattle.vt_pool.proofs.pool.Pool.take_home.Given as goal
 
 abbrev pub ghost-pop_for : goal.ghost-pop_for

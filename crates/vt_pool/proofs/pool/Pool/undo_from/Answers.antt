@@ -1,14 +1,14 @@
 use Rattle.std.proofs.Common.{◌≡◌, ◌∙◌, ◌⊎◌, false, inl, inr, refl, sym, ap, subst, arith, length, None}
 use Rattle.std.specs.List.{last_or}
 use Rattle.std.proofs.Math.ListN.{length-set}
-use Rattle.vt_key.specs.Order.{rank_before}
-use Rattle.vt_key.specs.Queues.{letter_rank}
-use Rattle.vt_key.specs.Lists.{Among}
+use Rattle.vt_key.specs.promise.Order.{rank_before}
+use Rattle.vt_key.specs.promise.Queues.{letter_rank}
+use Rattle.vt_key.specs.promise.Lists.{Among}
 use Rattle.vt_steps.proofs.lists.Places.{get-within}
-use Rattle.vt_lp.specs.Held.{way_back}
-use Rattle.vt_pool.specs.View.{past_at, number_at}
-use Rattle.vt_pool.specs.Share.{HeldPool, AreSettledBut, PoolLeadsTo}
-use Rattle.vt_pool.specs.Pool.{pool_after_undo, weight_of, with_waiting}
+use Rattle.vt_lp.specs.inside.Held.{way_back}
+use Rattle.vt_pool.specs.inside.View.{past_at, number_at}
+use Rattle.vt_pool.specs.inside.Share.{HeldPool, AreSettledBut, PoolLeadsTo}
+use Rattle.vt_pool.specs.inside.Pool.{pool_after_undo, weight_of, with_waiting}
 use Rattle.vt_pool.proofs.SettleLemmas.{undone-settled}
 use Rattle.vt_pool.proofs.ForceLemmas.{pool-nothing, pool-both, ends-with, ends-before, undo-forced, still-pending, fewer-past}
 use Rattle.vt_pool.proofs.WeightLemmas.{undone-weight}

@@ -1,10 +1,10 @@
 use Rattle.std.proofs.Common.{◌≡◌, ◌<◌, ◌≤◌, length}
-use Rattle.vt_key.specs.Lists.{Among}
+use Rattle.vt_key.specs.promise.Lists.{Among}
 use Rattle.vt_key.specs.declared.order.Rank.{Rank}
 use Rattle.vt_key.specs.declared.letter.Letter.{Letter}
-use Rattle.vt_pool.specs.Inside.{IsStockInside}
-use Rattle.vt_pool.specs.Share.{AreSettledBut, PoolLeadsTo}
-use Rattle.vt_pool.specs.Pool.{weight_of, with_waiting}
+use Rattle.vt_pool.specs.inside.Inside.{IsStockInside}
+use Rattle.vt_pool.specs.inside.Share.{AreSettledBut, PoolLeadsTo}
+use Rattle.vt_pool.specs.inside.Pool.{weight_of, with_waiting}
 use Rattle.vt_pool.proofs.pool.Pool.undo_from.Given as goal
 
 abbrev pub invariant-loop-self : goal.invariant-loop-self

@@ -2,29 +2,30 @@ use Rattle.std.proofs.Common.{rules, ◌≡◌, ◌∙◌, ◌<◌, ◌≤◌, �
 use Rattle.std.specs.List.{last_or}
 use Rattle.std.proofs.lemmas.List.{length-map}
 use Rattle.std.proofs.Math.ListN.{length-set}
-use Rattle.vt_key.specs.Queues.{letter_rank, holds_rank, insert_letter}
+use Rattle.vt_key.specs.promise.Queues.{letter_rank, insert_letter}
+use Rattle.vt_key.specs.inside.Queues.{holds_rank}
 use Rattle.vt_key.specs.declared.limits.TheConstants.{MAX_COUNT}
 use Rattle.vt_key.specs.declared.letter.Letter.{Letter}
 use Rattle.vt_key.specs.declared.letter.Sign.TheVariants.{Plus, Minus}
 use Rattle.vt_key.proofs.ListLemmas.{every-weaker}
-use Rattle.vt_stream.specs.Words.{Stream}
+use Rattle.vt_stream.specs.inside.Words.{Stream}
 use Rattle.vt_model.specs.declared.limits.TheConstants.{MAX_DRAWS}
 use Rattle.vt_model.specs.declared.process.Process.{Process}
-use Rattle.vt_model.specs.Process.{triple_at}
-use Rattle.vt_model.specs.Simulation.{Triple}
-use Rattle.vt_steps.specs.Letters.{stamped, signed}
-use Rattle.vt_lp.specs.Held.{IsOwnEvent, way_back}
+use Rattle.vt_model.specs.inside.Process.{triple_at}
+use Rattle.vt_model.specs.promise.Simulation.{Triple}
+use Rattle.vt_steps.specs.promise.Letters.{stamped, signed}
+use Rattle.vt_lp.specs.inside.Held.{IsOwnEvent, way_back}
 use Rattle.vt_lp.proofs.Stamping.{length-letters}
 use Rattle.vt_kernel.proofs.ProcessLemmas.{map-put, get-map_of}
 use Rattle.vt_kernel.proofs.LocalLemmas.{index-get}
 use Rattle.vt_logs.specs.declared.entry.Entry.{Entry}
-use Rattle.vt_logs.specs.Events.{Logged}
-use Rattle.vt_pool.specs.Logged.{placed, AreMade}
-use Rattle.vt_pool.specs.Pool.{pool_after_undo}
-use Rattle.vt_pool.specs.Share.{HeldPool}
-use Rattle.vt_pool.specs.View.{past_at, number_at}
-use Rattle.vt_pool.specs.Steps.{undone_in}
-use Rattle.vt_pool.specs.Inside.{IsWorkersEvent, IsStampedApart, IsPoolInside}
+use Rattle.vt_logs.specs.inside.Events.{Logged}
+use Rattle.vt_pool.specs.inside.Logged.{placed, AreMade}
+use Rattle.vt_pool.specs.inside.Pool.{pool_after_undo}
+use Rattle.vt_pool.specs.inside.Share.{HeldPool}
+use Rattle.vt_pool.specs.inside.View.{past_at, number_at}
+use Rattle.vt_pool.specs.inside.Steps.{undone_in}
+use Rattle.vt_pool.specs.inside.Inside.{IsWorkersEvent, IsStampedApart, IsPoolInside}
 use Rattle.vt_pool.proofs.InsideLemmas.{last-there, every-last_there, stamped-apart}
 use Rattle.vt_pool.proofs.LoggedLemmas.{sends-of_last, entry-of_last, last-is, last-none, without-placed, every-without_last, every-last_of, nodes-last, last-within}
 use Rattle.vt_pool.proofs.PoolLemmas.{pool-undone}

@@ -1,9 +1,9 @@
 use Rattle.std.proofs.Common.{◌≡◌, ◌<◌, ◌∙◌, false, if◌then◌else◌, length, slice_index, sym, ap, arith}
 use Rattle.vt_riscv.specs.declared.machine.Trap.TheVariants.{BadJump}
-use Rattle.vt_riscv.specs.Arithmetic.{sum}
-use Rattle.vt_riscv.specs.Readiness.{place_at, head_at, instruction_at}
-use Rattle.vt_riscv.specs.Steps.{goes_on, trapped, is_misaligned, with_register, behind}
-use Rattle.vt_riscv.specs.Sprints.{at_index}
+use Rattle.vt_riscv.specs.promise.Arithmetic.{sum}
+use Rattle.vt_riscv.specs.inside.Readiness.{place_at, head_at, instruction_at}
+use Rattle.vt_riscv.specs.promise.Steps.{goes_on, trapped, is_misaligned, with_register, behind}
+use Rattle.vt_riscv.specs.inside.Sprints.{at_index}
 use Rattle.vt_riscv.proofs.machine.Machine.link_ready.Goals as goal
 
 pub returns : goal.returns

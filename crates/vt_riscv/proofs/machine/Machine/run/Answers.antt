@@ -1,7 +1,7 @@
 use Rattle.std.proofs.Common.{rules, ◌≡◌, suc, ◌-◌, ◌∙◌, Bool, true, false, sym, ap, arith, if◌then◌else◌}
 use Rattle.vt_riscv.specs.declared.machine.Stop.TheVariants.{Ended, Spent}
-use Rattle.vt_riscv.specs.Steps.{Ran, run_of}
-use Rattle.vt_riscv.specs.Sprints.{rest_of}
+use Rattle.vt_riscv.specs.promise.Steps.{Ran, run_of}
+use Rattle.vt_riscv.specs.inside.Sprints.{rest_of}
 use Rattle.vt_riscv.proofs.RunLemmas.{run-on, run-stop, run-none}
 use Rattle.vt_riscv.proofs.machine.Machine.run.Goals as goal
 

@@ -1,5 +1,5 @@
 use Rattle.std.proofs.Common.{◌≡◌}
-use Rattle.vt_riscv.specs.Steps.{run_of}
+use Rattle.vt_riscv.specs.promise.Steps.{run_of}
 use Rattle.vt_riscv.proofs.machine.Machine.run.Given as goal
 
 abbrev pub invariant-steps : goal.invariant-steps

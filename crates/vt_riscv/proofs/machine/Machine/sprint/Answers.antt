@@ -1,8 +1,8 @@
 use Rattle.std.proofs.Common.{rules, ◌≡◌, ℕ, ◌+◌, ◌-◌, ◌<◌, ◌≤◌, ◌∙◌, length, slice_index, sym, ap, arith}
 use Rattle.vt_riscv.specs.declared.machine.Stop.TheVariants.{Called}
-use Rattle.vt_riscv.specs.Readiness.{place_at, head_at}
-use Rattle.vt_riscv.specs.Steps.{run_of}
-use Rattle.vt_riscv.specs.Sprints.{at_index}
+use Rattle.vt_riscv.specs.inside.Readiness.{place_at, head_at}
+use Rattle.vt_riscv.specs.promise.Steps.{run_of}
+use Rattle.vt_riscv.specs.inside.Sprints.{at_index}
 use Rattle.vt_riscv.proofs.SprintLemmas.{are_ready, aim_there, followed_here, run-next, run-at, run-to, run-call}
 use Rattle.vt_riscv.proofs.machine.Machine.sprint.Goals as goal
 use Rattle.vt_riscv.proofs.machine.Machine.sprint.Goals.{in-At, in-To+in-Some-index_of}

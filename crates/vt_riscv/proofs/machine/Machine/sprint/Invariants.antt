@@ -1,6 +1,6 @@
 use Rattle.std.proofs.Common.{◌≡◌, ◌+◌, ◌-◌, ◌<◌, ◌≤◌, length}
-use Rattle.vt_riscv.specs.Steps.{run_of}
-use Rattle.vt_riscv.specs.Sprints.{at_index}
+use Rattle.vt_riscv.specs.promise.Steps.{run_of}
+use Rattle.vt_riscv.specs.inside.Sprints.{at_index}
 use Rattle.vt_riscv.proofs.machine.Machine.sprint.Given as goal
 
 abbrev pub invariant-steps : goal.invariant-steps

@@ -1,6 +1,6 @@
 use Rattle.std.proofs.Common.{◌≡◌, ◌+◌, ◌-◌, ◌++◌, List, [], ◌∷◌, length, rules}
 use Rattle.vt_seq.specs.declared.entry.Entry.{Entry}
-use Rattle.vt_seq.specs.Days.{entries_of_days}
+use Rattle.vt_seq.specs.inside.Days.{entries_of_days}
 use Rattle.vt_seq.proofs.CalendarLemmas.{last-split, last-out, last-least}
 use Rattle.vt_seq.proofs.calendar.Calendar.first.Given.{Over}
 use Rattle.vt_seq.proofs.calendar.Calendar.first.Goals as goal

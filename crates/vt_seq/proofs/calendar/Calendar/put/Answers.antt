@@ -1,6 +1,6 @@
 use Rattle.std.proofs.Common.{◌≡◌, ◌+◌, ◌-◌, ◌≤◌, ◌∙◌, ℕ, ap, arith}
-use Rattle.vt_key.specs.Times.{ticks_of}
-use Rattle.vt_seq.specs.Days.{day_of, AreDated}
+use Rattle.vt_key.specs.promise.Times.{ticks_of}
+use Rattle.vt_seq.specs.inside.Days.{day_of, AreDated}
 use Rattle.vt_seq.proofs.CalendarLemmas.{dated-either, entries-put}
 use Rattle.vt_seq.proofs.calendar.Calendar.put.Given.{Over}
 use Rattle.vt_seq.proofs.calendar.Calendar.put.Goals.{After-day_of-day, After-put}

@@ -1,5 +1,5 @@
 use Rattle.std.proofs.Common.{◌+◌}
-use Rattle.vt_seq.specs.Days.{entries_of_days}
+use Rattle.vt_seq.specs.inside.Days.{entries_of_days}
 use Rattle.vt_seq.proofs.CalendarLemmas.{falling-left, just-left, last-out, last-least}
 use Rattle.vt_seq.proofs.calendar.Calendar.remove_first.Goals as goal
 

@@ -2,7 +2,7 @@ use Rattle.std.proofs.Common.{◌≡◌, ◌+◌, ◌++◌, ◌∙◌, [], List,
 use Rattle.std.specs.List.Sorted.{IsPermutation}
 use Rattle.std.proofs.lemmas.List.{nil_from_length}
 use Rattle.vt_seq.specs.declared.entry.Entry.{Entry}
-use Rattle.vt_seq.specs.Days.{entries_of_days, AreDated}
+use Rattle.vt_seq.specs.inside.Days.{entries_of_days, AreDated}
 use Rattle.vt_seq.proofs.CalendarLemmas.{sorted-falling, just-permuted, taken-just, taken-some, dated-taken, entries-taken, none-falling, none-just}
 use Rattle.vt_seq.proofs.calendar.Calendar.settle.Goals as goal
 

@@ -1,7 +1,7 @@
 use Rattle.std.proofs.Common.{◌≡◌, ◌+◌, ◌∙◌, ℕ, List, [], ◌∷◌, ◌++◌, false, map, replicate, length, vec_len, ap, arith, rules, Vec, Global}
 use Rattle.std.proofs.lemmas.List.{map-append, length-map, length-append}
 use Rattle.vt_seq.specs.declared.entry.Entry.{Entry}
-use Rattle.vt_seq.specs.Days.{entries_of_days}
+use Rattle.vt_seq.specs.inside.Days.{entries_of_days}
 use Rattle.vt_seq.proofs.CalendarLemmas.{days-more, empty-marks}
 use Rattle.vt_seq.proofs.days.Days.new.Goals as goal
 

@@ -1,6 +1,6 @@
 use Rattle.std.proofs.Common.{◌≡◌, [], map, Vec, Global, length}
 use Rattle.vt_seq.specs.declared.entry.Entry.{Entry}
-use Rattle.vt_seq.specs.Days.{entries_of_days}
+use Rattle.vt_seq.specs.inside.Days.{entries_of_days}
 use Rattle.vt_seq.proofs.days.Days.new.Given as goal
 
 abbrev pub invariant-loop : goal.invariant-loop

@@ -2,7 +2,7 @@ use Rattle.std.proofs.Common.{◌≡◌, ◌<◌, ◌∙◌, List, [], ◌∷◌
 use Rattle.std.proofs.lemmas.List.{map-set}
 use Rattle.std.proofs.lemmas.Option.{same_Some}
 use Rattle.vt_seq.specs.declared.entry.Entry.{Entry}
-use Rattle.vt_seq.specs.Days.{is_used, IsPut}
+use Rattle.vt_seq.specs.inside.Days.{is_used, IsPut}
 use Rattle.vt_seq.proofs.CalendarLemmas.{day-there, filled-used, items_of, put-more, put-new}
 use Rattle.vt_seq.proofs.days.Days.put.Given.{Over}
 use Rattle.vt_seq.proofs.days.Days.put.Goals as goal

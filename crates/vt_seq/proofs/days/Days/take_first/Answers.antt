@@ -2,7 +2,7 @@ use Rattle.std.proofs.Common.{◌≡◌, ◌<◌, ◌≤◌, ◌∙◌, ℕ, Lis
 use Rattle.std.proofs.lemmas.List.{map-set, length-map}
 use Rattle.std.proofs.lemmas.Option.{slice_get_within, same_Some}
 use Rattle.vt_seq.specs.declared.entry.Entry.{Entry}
-use Rattle.vt_seq.specs.Days.{is_used, entries_of_days, IsDayTaken}
+use Rattle.vt_seq.specs.inside.Days.{is_used, entries_of_days, IsDayTaken}
 use Rattle.vt_seq.proofs.CalendarLemmas.{day-there, marked-there, unmarked-empty, unmarked-none}
 use Rattle.vt_seq.proofs.days.Days.take_first.Goals as goal
 

@@ -2,10 +2,10 @@ use Rattle.std.proofs.Common.{rules, ◌≡◌, ℕ, ◌∙◌, List, [], ◌∷
 use Rattle.std.proofs.Math.Logic.{∥∥₁_elim}
 use Rattle.std.proofs.Props.{props}
 use Rattle.std.specs.List.{range_with_len}
-use Rattle.vt_model.specs.Process.{triple_at}
-use Rattle.vt_model.specs.Simulation.{Triple, simulation_of, after}
+use Rattle.vt_model.specs.inside.Process.{triple_at}
+use Rattle.vt_model.specs.promise.Simulation.{Triple, simulation_of, after}
 use Rattle.vt_model.specs.declared.process.Process.{Process}
-use Rattle.vt_model.specs.Sequential.{after_steps, events_of, whole_run}
+use Rattle.vt_model.specs.promise.Sequential.{after_steps, events_of, whole_run}
 use Rattle.vt_model.proofs.LawLemmas.{lawful_of}
 use Rattle.vt_seq.proofs.StepLemmas.{none_pending, none_there, none_first, not_both}
 use Rattle.vt_model.proofs.EndLemmas.{executed_all}

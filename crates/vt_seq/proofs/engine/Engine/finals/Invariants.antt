@@ -1,8 +1,8 @@
 use Rattle.std.proofs.Common.{◌≡◌, ℕ, map}
 use Rattle.std.specs.List.{range_with_len}
-use Rattle.vt_model.specs.Simulation.{simulation_of, after}
-use Rattle.vt_model.specs.Sequential.{after_steps, events_of}
-use Rattle.vt_seq.specs.StandsFor.{StandsAt}
+use Rattle.vt_model.specs.promise.Simulation.{simulation_of, after}
+use Rattle.vt_model.specs.promise.Sequential.{after_steps, events_of}
+use Rattle.vt_seq.specs.inside.StandsFor.{StandsAt}
 use Rattle.vt_seq.proofs.engine.Engine.finals.Given as goal
 
 abbrev pub invariant-loop-p : goal.invariant-loop-p

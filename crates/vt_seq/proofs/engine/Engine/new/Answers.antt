@@ -1,10 +1,10 @@
 use Rattle.std.proofs.Common.{rules, ◌≡◌, ℕ, ◌+◌, ◌<◌, ◌≤◌, ◌∙◌, List, [], ◌∷◌, ◌++◌, length, slice_index_or, sym, subst, arith, vec_len}
 use Rattle.vt_key.specs.declared.limits.TheConstants.{MAX_COUNT}
-use Rattle.vt_model.specs.Simulation.{simulation_of}
-use Rattle.vt_model.specs.Histories.{IsLawful}
+use Rattle.vt_model.specs.promise.Simulation.{simulation_of}
+use Rattle.vt_model.specs.promise.Histories.{IsLawful}
 use Rattle.vt_model.specs.declared.settings.Config.{Config}
 use Rattle.vt_model.proofs.LawLemmas.{lawful_of}
-use Rattle.vt_model.specs.Process.{IsProcessStream}
+use Rattle.vt_model.specs.inside.Process.{IsProcessStream}
 use Rattle.vt_model.specs.declared.process.Process.{Process}
 use Rattle.vt_seq.proofs.StepLemmas.{among-at, taken}
 use Rattle.vt_seq.proofs.StartLemmas.{AllStarted, none_started, started_next, stands_start, all_more, sources_below}

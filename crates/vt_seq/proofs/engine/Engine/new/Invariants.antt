@@ -1,7 +1,7 @@
 use Rattle.std.proofs.Common.{ℕ, ◌<◌, ◌≤◌, slice_index_or}
-use Rattle.vt_model.specs.Simulation.{simulation_of}
+use Rattle.vt_model.specs.promise.Simulation.{simulation_of}
 use Rattle.vt_key.specs.declared.limits.TheConstants.{MAX_COUNT}
-use Rattle.vt_model.specs.Process.{IsProcessStream}
+use Rattle.vt_model.specs.inside.Process.{IsProcessStream}
 use Rattle.vt_seq.proofs.StartLemmas.{AllStarted}
 use Rattle.vt_seq.proofs.engine.Engine.new.Given as goal
 

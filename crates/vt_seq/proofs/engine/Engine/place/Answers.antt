@@ -1,5 +1,5 @@
 use Rattle.std.proofs.Common.{rules, ◌∙◌, ap}
-use Rattle.vt_model.specs.Simulation.{Triple}
+use Rattle.vt_model.specs.promise.Simulation.{Triple}
 use Rattle.vt_seq.proofs.StepLemmas.{looked_up}
 use Rattle.vt_seq.proofs.engine.Engine.place.Goals as goal
 

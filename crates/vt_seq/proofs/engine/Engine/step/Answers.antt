@@ -6,13 +6,13 @@ use Rattle.vt_key.specs.declared.limits.TheConstants.{MAX_COUNT}
 use Rattle.vt_model.specs.declared.process.Process.{Process}
 use Rattle.vt_model.specs.declared.sending.Sent.{Sent}
 use Rattle.vt_model.specs.declared.settings.Config.{Config}
-use Rattle.vt_model.specs.Histories.{IsLawful}
-use Rattle.vt_model.specs.Process.{IsProcessStream}
-use Rattle.vt_model.specs.Settings.{end_of}
-use Rattle.vt_model.specs.Simulation.{simulation_of}
+use Rattle.vt_model.specs.promise.Histories.{IsLawful}
+use Rattle.vt_model.specs.inside.Process.{IsProcessStream}
+use Rattle.vt_model.specs.promise.Settings.{end_of}
+use Rattle.vt_model.specs.promise.Simulation.{simulation_of}
 use Rattle.vt_model.proofs.LawLemmas.{lawful_of}
 use Rattle.vt_model.proofs.Sizes.{out_fits}
-use Rattle.vt_seq.specs.Queue.{IsWithinRun}
+use Rattle.vt_seq.specs.inside.Queue.{IsWithinRun}
 use Rattle.vt_seq.proofs.StepLemmas.{first_within, next_of, seated_state, stands_step, stays_at, refused_next, unmoved, numbers_below_next, taken_next, falls, none_there, either_way, set_same, set_all}
 use Rattle.vt_seq.proofs.GivenLemmas.{adds_nothing, adds_step}
 use Rattle.vt_seq.proofs.engine.Engine.step.Given.{Over}

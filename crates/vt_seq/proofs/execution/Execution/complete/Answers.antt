@@ -1,12 +1,12 @@
 use Rattle.std.proofs.Common.{rules, arith, refl, ◌≡◌, ℕ, zero, suc, ◌+◌, ◌∙◌, List, [], sym, subst}
 use Rattle.std.proofs.lemmas.List.{nil_from_length}
-use Rattle.vt_model.specs.Simulation.{Simulation, simulation_of}
-use Rattle.vt_model.specs.Sequential.{after_steps}
+use Rattle.vt_model.specs.promise.Simulation.{Simulation, simulation_of}
+use Rattle.vt_model.specs.promise.Sequential.{after_steps}
 use Rattle.vt_model.specs.declared.rows.Record.{Record}
 use Rattle.vt_model.proofs.LawLemmas.{lawful_of}
-use Rattle.vt_seq.specs.Limits.{IsRunStepRefusal, IsCounted}
-use Rattle.vt_seq.specs.Given.{AddsStep, AddsSteps}
-use Rattle.vt_seq.specs.Standing.{Standing, IsAt}
+use Rattle.vt_seq.specs.inside.Limits.{IsRunStepRefusal, IsCounted}
+use Rattle.vt_seq.specs.inside.Given.{AddsStep, AddsSteps}
+use Rattle.vt_seq.specs.inside.Standing.{Standing, IsAt}
 use Rattle.vt_seq.proofs.GivenLemmas.{counted_whole, whole_records}
 use Rattle.vt_model.proofs.Sizes.{out_fits, first_out}
 use Rattle.vt_seq.proofs.ProgressLemmas.{added_more, added_none, added_rest, seen-on_way}

@@ -1,8 +1,8 @@
 use Rattle.std.proofs.Common.{◌≡◌, ℕ, ◌+◌}
-use Rattle.vt_model.specs.Simulation.{simulation_of}
-use Rattle.vt_model.specs.Sequential.{weight}
-use Rattle.vt_seq.specs.Given.{AddsSteps}
-use Rattle.vt_seq.specs.Standing.{IsAt}
+use Rattle.vt_model.specs.promise.Simulation.{simulation_of}
+use Rattle.vt_model.specs.promise.Sequential.{weight}
+use Rattle.vt_seq.specs.inside.Given.{AddsSteps}
+use Rattle.vt_seq.specs.inside.Standing.{IsAt}
 use Rattle.vt_seq.proofs.execution.Execution.complete.Given as goal
 
 abbrev pub invariant-loop : goal.invariant-loop

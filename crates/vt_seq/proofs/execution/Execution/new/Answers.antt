@@ -1,5 +1,5 @@
 use Rattle.std.proofs.Common.{rules, ◌≤◌, length, arith}
-use Rattle.vt_model.specs.Simulation.{simulation_of}
+use Rattle.vt_model.specs.promise.Simulation.{simulation_of}
 use Rattle.vt_seq.proofs.ProgressLemmas.{stands-after}
 use Rattle.vt_seq.proofs.execution.Execution.new.Goals as goal
 

@@ -1,9 +1,9 @@
 use Rattle.std.proofs.Common.{rules, ◌≡◌, ◌≤◌, Some, slice_get, subst}
 use Rattle.std.specs.Option.{option_map}
-use Rattle.vt_key.specs.Times.{ticks_of}
-use Rattle.vt_key.specs.Lists.{Among}
+use Rattle.vt_key.specs.promise.Times.{ticks_of}
+use Rattle.vt_key.specs.promise.Lists.{Among}
 use Rattle.vt_model.specs.declared.sending.Sent.{Sent}
-use Rattle.vt_seq.specs.Standing.{Standing}
+use Rattle.vt_seq.specs.inside.Standing.{Standing}
 use Rattle.vt_seq.proofs.ProgressLemmas.{first_tick, rising_of}
 use Rattle.vt_seq.proofs.execution.Execution.next_tick.Goals as goal
 

@@ -1,13 +1,13 @@
 use Rattle.std.proofs.Common.{rules, ◌≡◌, ℕ, suc, ◌≤◌, ◌<◌, ◌↔◌, ◌∙◌, IsTrue, [], length, IfOk, IfErr, ap, subst, arith}
 use Rattle.std.proofs.lemmas.Result.{IfOk-weaker}
-use Rattle.vt_model.specs.Simulation.{simulation_of}
+use Rattle.vt_model.specs.promise.Simulation.{simulation_of}
 use Rattle.vt_model.specs.declared.settings.Config.{Config}
 use Rattle.vt_model.proofs.LawLemmas.{lawful_of}
-use Rattle.vt_model.specs.Sequential.{after_steps, seq_records, weight}
-use Rattle.vt_model.specs.Settings.{end_of}
-use Rattle.vt_seq.specs.Given.{records_to, AddsStep}
-use Rattle.vt_seq.specs.Limits.{IsCounted, IsRunStepRefusal}
-use Rattle.vt_seq.specs.Standing.{Standing, IsAt}
+use Rattle.vt_model.specs.promise.Sequential.{after_steps, seq_records, weight}
+use Rattle.vt_model.specs.promise.Settings.{end_of}
+use Rattle.vt_seq.specs.inside.Given.{records_to, AddsStep}
+use Rattle.vt_seq.specs.inside.Limits.{IsCounted, IsRunStepRefusal}
+use Rattle.vt_seq.specs.inside.Standing.{Standing, IsAt}
 use Rattle.vt_seq.proofs.ProgressLemmas.{seen-on_way, seen, stands-after, after-stands, if_ok-both, if_err-both, seen_same}
 use Rattle.vt_seq.proofs.StepLemmas.{AreCounted, counted_at, none_pending}
 use Rattle.vt_seq.proofs.GivenLemmas.{whole_records}

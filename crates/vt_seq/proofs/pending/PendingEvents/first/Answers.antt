@@ -2,7 +2,7 @@ use Rattle.std.proofs.Common.{◌<◌, ◌∙◌, ◌++◌, List, length, slice_
 use Rattle.std.specs.BinaryHeap.{heap_items}
 use Rattle.vt_model.specs.declared.sending.Sent.{Sent}
 use Rattle.vt_seq.specs.declared.entry.Entry.{Entry}
-use Rattle.vt_seq.specs.Days.{calendar_entries}
+use Rattle.vt_seq.specs.inside.Days.{calendar_entries}
 use Rattle.vt_seq.proofs.HeapLemmas.{top-least, top-out, in-near, in-far, least-append, first-event}
 use Rattle.vt_seq.proofs.pending.PendingEvents.first.Goals as goal
 

@@ -2,12 +2,12 @@ use Rattle.std.proofs.Common.{◌≡◌, ◌∙◌, ℕ, ◌+◌, IfOk, IfErr, s
 use Rattle.std.proofs.Math.Logic.{∥∥₁_map, ∥∥₁_elim}
 use Rattle.std.proofs.Props.{props}
 use Rattle.std.proofs.lemmas.Result.{IfErr-weaker, IfOk-weaker}
-use Rattle.vt_model.specs.Simulation.{Simulation, simulation_of}
-use Rattle.vt_model.specs.Sequential.{after_steps, seq_records}
-use Rattle.vt_model.specs.Settings.{end_of}
+use Rattle.vt_model.specs.promise.Simulation.{Simulation, simulation_of}
+use Rattle.vt_model.specs.promise.Sequential.{after_steps, seq_records}
+use Rattle.vt_model.specs.promise.Settings.{end_of}
 use Rattle.vt_model.proofs.LawLemmas.{lawful_of}
-use Rattle.vt_seq.specs.Limits.{IsCountedWhole, IsRunStepRefusal}
-use Rattle.vt_seq.specs.Progress.{Progress, IsAfter, IsAfterSomeSteps, with_records}
+use Rattle.vt_seq.specs.inside.Limits.{IsCountedWhole, IsRunStepRefusal}
+use Rattle.vt_seq.specs.inside.Progress.{Progress, IsAfter, IsAfterSomeSteps, with_records}
 use Rattle.vt_seq.proofs.GivenLemmas.{whole_records}
 use Rattle.vt_seq.proofs.ProgressLemmas.{counted_any, kept_through, same-run}
 use Rattle.vt_seq.proofs.StepLemmas.{none_pending}

@@ -1,6 +1,6 @@
 use Rattle.std.proofs.Common.{◌≡◌, sym, subst}
-use Rattle.vt_model.specs.Simulation.{Simulation, simulation_of}
-use Rattle.vt_seq.specs.Standing.{IsAt}
+use Rattle.vt_model.specs.promise.Simulation.{Simulation, simulation_of}
+use Rattle.vt_seq.specs.inside.Standing.{IsAt}
 use Rattle.vt_seq.proofs.run.Sequential.new.Goals as goal
 
 pub invariant_of-result : goal.invariant_of-result

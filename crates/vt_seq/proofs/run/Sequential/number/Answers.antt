@@ -1,5 +1,5 @@
 use Rattle.std.proofs.Common.{subst}
-use Rattle.vt_seq.specs.Progress.{Progress, IsAfterSomeSteps}
+use Rattle.vt_seq.specs.inside.Progress.{Progress, IsAfterSomeSteps}
 use Rattle.vt_seq.proofs.ProgressLemmas.{kept-told}
 use Rattle.vt_seq.proofs.run.Sequential.number.Goals as goal
 

@@ -1,11 +1,11 @@
 use Rattle.std.proofs.Common.{◌≡◌, ◌∙◌, ℕ, [], IfOk, filter, ap, subst}
 use Rattle.std.proofs.lemmas.Result.{IfOk-weaker}
-use Rattle.vt_key.specs.Times.{time_before}
-use Rattle.vt_model.specs.Rows.{record_time}
-use Rattle.vt_model.specs.Simulation.{simulation_of}
-use Rattle.vt_model.specs.Sequential.{after_steps, rows_after, rows_before, records_of}
+use Rattle.vt_key.specs.promise.Times.{time_before}
+use Rattle.vt_model.specs.promise.Rows.{record_time}
+use Rattle.vt_model.specs.promise.Simulation.{simulation_of}
+use Rattle.vt_model.specs.promise.Sequential.{after_steps, rows_after, rows_before, records_of}
 use Rattle.vt_model.proofs.LawLemmas.{lawful_of}
-use Rattle.vt_seq.specs.Progress.{Progress, IsAfter, IsAfterSomeSteps}
+use Rattle.vt_seq.specs.inside.Progress.{Progress, IsAfter, IsAfterSomeSteps}
 use Rattle.vt_seq.proofs.GivenLemmas.{records_before}
 use Rattle.vt_seq.proofs.run.Sequential.records_below.Goals as goal
 

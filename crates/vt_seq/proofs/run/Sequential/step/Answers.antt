@@ -1,8 +1,8 @@
 use Rattle.std.proofs.Common.{ℕ, suc, IfOk, IfErr, sym, subst}
 use Rattle.std.proofs.Math.Logic.{∥∥₁_map}
-use Rattle.vt_model.specs.Simulation.{Simulation, simulation_of}
-use Rattle.vt_seq.specs.Limits.{IsCounted, IsRunStepRefusal}
-use Rattle.vt_seq.specs.Progress.{Progress, IsAfter, IsAfterSomeSteps, with_records}
+use Rattle.vt_model.specs.promise.Simulation.{Simulation, simulation_of}
+use Rattle.vt_seq.specs.inside.Limits.{IsCounted, IsRunStepRefusal}
+use Rattle.vt_seq.specs.inside.Progress.{Progress, IsAfter, IsAfterSomeSteps, with_records}
 use Rattle.vt_seq.proofs.ProgressLemmas.{kept_on, if_ok-both, same-run}
 use Rattle.vt_seq.proofs.StepLemmas.{either_way}
 use Rattle.vt_seq.proofs.run.Sequential.step.Goals as goal

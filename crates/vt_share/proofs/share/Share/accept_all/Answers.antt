@@ -1,18 +1,18 @@
 use Rattle.std.proofs.Common.{◌≡◌, ◌∙◌, ◌⊎◌, List, [], inl, inr, true, IfSome, slice_get, map, drop, refl, sym, ap, subst, rules}
 use Rattle.std.proofs.lemmas.List.Elements.{All-drop}
-use Rattle.vt_key.specs.Queues.{letter_rank}
+use Rattle.vt_key.specs.promise.Queues.{letter_rank}
 use Rattle.vt_key.specs.declared.fault.Fault.{Fault}
 use Rattle.vt_key.specs.declared.fault.Fault.TheVariants.{Memory, NotLawful}
 use Rattle.vt_key.specs.declared.letter.Mail.{Mail}
 use Rattle.vt_key.proofs.ResultLemmas.{if_err}
-use Rattle.vt_kernel.specs.Held.{HeldWorker, AllOwnMail, IsOwnMail}
-use Rattle.vt_pool.specs.Inside.{AreSettled}
-use Rattle.vt_pool.specs.Pool.{holds_stamp}
-use Rattle.vt_pool.specs.Share.{HeldPool, seen}
-use Rattle.vt_pool.specs.Steps.{LeadsTo}
+use Rattle.vt_kernel.specs.inside.Held.{HeldWorker, AllOwnMail, IsOwnMail}
+use Rattle.vt_pool.specs.inside.Inside.{AreSettled}
+use Rattle.vt_pool.specs.inside.Pool.{holds_stamp}
+use Rattle.vt_pool.specs.inside.Share.{HeldPool, seen}
+use Rattle.vt_pool.specs.inside.Steps.{LeadsTo}
 use Rattle.vt_pool.proofs.LeadLemmas.{leads-nothing}
-use Rattle.vt_share.specs.Calls.{IsHeldMail}
-use Rattle.vt_share.specs.Held.{share_of, IsShareInside}
+use Rattle.vt_share.specs.inside.Calls.{IsHeldMail}
+use Rattle.vt_share.specs.inside.Held.{share_of, IsShareInside}
 use Rattle.vt_share.proofs.AcceptLemmas.{accepted-leads, left-held}
 use Rattle.vt_share.proofs.share.Share.accept_all.Goals as goal
 

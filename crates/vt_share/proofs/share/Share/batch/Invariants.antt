@@ -1,4 +1,4 @@
-use Rattle.vt_pool.specs.Forgotten.{rows_of_held}
+use Rattle.vt_pool.specs.inside.Forgotten.{rows_of_held}
 use Rattle.vt_share.proofs.share.Share.batch.Given as goal
 
 abbrev pub ghost-batch_seen : goal.ghost-batch_seen

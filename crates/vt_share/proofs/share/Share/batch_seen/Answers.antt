@@ -1,8 +1,8 @@
 use Rattle.std.proofs.Common.{◌∙◌, sym, ap, subst}
 use Rattle.std.specs.List.{sum_by}
-use Rattle.vt_steps.specs.Rows.{AreSameRows}
-use Rattle.vt_kernel.specs.Held.{HeldWorker, AreProcesses}
-use Rattle.vt_pool.specs.Forgotten.{rows_of_held}
+use Rattle.vt_steps.specs.inside.Rows.{AreSameRows}
+use Rattle.vt_kernel.specs.inside.Held.{HeldWorker, AreProcesses}
+use Rattle.vt_pool.specs.inside.Forgotten.{rows_of_held}
 use Rattle.vt_pool.proofs.ForgetLemmas.{rows-same}
 use Rattle.vt_pool.proofs.ViewLemmas.{are-from}
 use Rattle.vt_share.proofs.share.Share.batch_seen.Goals as goal

@@ -1,11 +1,11 @@
 use Rattle.std.proofs.Common.{◌≡◌, ◌∙◌, true, false, IfOk, IfErr, sym, ap, subst}
 use Rattle.std.proofs.lemmas.Result.{IfErr-weaker, IfOk-weaker}
-use Rattle.vt_kernel.specs.Held.{HeldWorker, AllOwnMail}
+use Rattle.vt_kernel.specs.inside.Held.{HeldWorker, AllOwnMail}
 use Rattle.vt_kernel.proofs.PartLemmas.{stands_along}
-use Rattle.vt_pool.specs.Share.{HeldPool, seen}
-use Rattle.vt_pool.specs.Steps.{LeadsTo}
-use Rattle.vt_share.specs.Calls.{ExecutesNext, HasNothingPending, IsNextRefusal}
-use Rattle.vt_share.specs.Held.{share_of}
+use Rattle.vt_pool.specs.inside.Share.{HeldPool, seen}
+use Rattle.vt_pool.specs.inside.Steps.{LeadsTo}
+use Rattle.vt_share.specs.inside.Calls.{ExecutesNext, HasNothingPending, IsNextRefusal}
+use Rattle.vt_share.specs.inside.Held.{share_of}
 use Rattle.vt_share.proofs.ExecuteLemmas.{executes-next, next-refused}
 use Rattle.vt_share.proofs.LetterLemmas.{nothing-pending}
 use Rattle.vt_share.proofs.share.Share.execute_next.Goals as goal

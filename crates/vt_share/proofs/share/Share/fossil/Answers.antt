@@ -1,11 +1,11 @@
 use Rattle.std.proofs.Common.{◌≡◌, refl, sym, subst}
-use Rattle.vt_steps.specs.PartSteps.{part_after_commit}
-use Rattle.vt_kernel.specs.Held.{HeldWorker, StandsFor}
+use Rattle.vt_steps.specs.promise.PartSteps.{part_after_commit}
+use Rattle.vt_kernel.specs.inside.Held.{HeldWorker, StandsFor}
 use Rattle.vt_kernel.proofs.PartLemmas.{stands_along}
-use Rattle.vt_pool.specs.Share.{HeldPool, seen}
+use Rattle.vt_pool.specs.inside.Share.{HeldPool, seen}
 use Rattle.vt_pool.proofs.CommitLemmas.{forgotten-settled}
 use Rattle.vt_pool.proofs.ForgetLemmas.{forget-stands}
-use Rattle.vt_share.specs.Held.{share_of, IsShareInside}
+use Rattle.vt_share.specs.inside.Held.{share_of, IsShareInside}
 use Rattle.vt_share.proofs.share.Share.fossil.Goals as goal
 
 pub invariant_of-self : goal.invariant_of-self

@@ -1,16 +1,16 @@
 use Rattle.std.proofs.Common.{◌≡◌, ◌∙◌, ◌++◌, List, map, sym, ap, subst}
 use Rattle.std.specs.List.{flat_map}
-use Rattle.vt_key.specs.Times.{earlier}
+use Rattle.vt_key.specs.promise.Times.{earlier}
 use Rattle.vt_key.specs.declared.letter.Letter.{Letter}
 use Rattle.vt_key.specs.declared.letter.Mail.{Mail}
-use Rattle.vt_model.specs.Settings.{end_of}
-use Rattle.vt_steps.specs.Letters.{least_time}
-use Rattle.vt_lp.specs.Held.{HeldProcess}
-use Rattle.vt_kernel.specs.Held.{HeldWorker}
-use Rattle.vt_kernel.specs.Guards.{held_letters}
-use Rattle.vt_pool.specs.Share.{HeldPool, seen}
-use Rattle.vt_pool.specs.View.{processes_in}
-use Rattle.vt_share.specs.Held.{share_of, IsShareInside}
+use Rattle.vt_model.specs.promise.Settings.{end_of}
+use Rattle.vt_steps.specs.promise.Letters.{least_time}
+use Rattle.vt_lp.specs.inside.Held.{HeldProcess}
+use Rattle.vt_kernel.specs.inside.Held.{HeldWorker}
+use Rattle.vt_kernel.specs.inside.Guards.{held_letters}
+use Rattle.vt_pool.specs.inside.Share.{HeldPool, seen}
+use Rattle.vt_pool.specs.inside.View.{processes_in}
+use Rattle.vt_share.specs.inside.Held.{share_of, IsShareInside}
 use Rattle.vt_share.proofs.LetterLemmas.{least-held, least-kept}
 use Rattle.vt_share.proofs.share.Share.least.Goals as goal
 

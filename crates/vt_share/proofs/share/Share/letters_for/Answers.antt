@@ -6,16 +6,16 @@ use Rattle.vt_key.specs.declared.fault.Fault.TheVariants.{NotLawful}
 use Rattle.vt_key.proofs.ResultLemmas.{if_err}
 use Rattle.vt_key.specs.declared.letter.Letter.{Letter}
 use Rattle.vt_key.specs.declared.limits.TheConstants.{MAX_COUNT}
-use Rattle.vt_model.specs.Simulation.{simulation_of}
-use Rattle.vt_steps.specs.Letters.{raised, count_of}
-use Rattle.vt_steps.specs.PartSteps.{letters_for, is_for, part_after_send}
-use Rattle.vt_kernel.specs.Held.{HeldWorker, AllOwnMail, AreCounted, StandsFor}
-use Rattle.vt_kernel.specs.Guards.{mailed, IsSendRefusal}
-use Rattle.vt_kernel.specs.Steps.{held_after_send}
+use Rattle.vt_model.specs.promise.Simulation.{simulation_of}
+use Rattle.vt_steps.specs.promise.Letters.{raised, count_of}
+use Rattle.vt_steps.specs.promise.PartSteps.{letters_for, is_for, part_after_send}
+use Rattle.vt_kernel.specs.inside.Held.{HeldWorker, AllOwnMail, AreCounted, StandsFor}
+use Rattle.vt_kernel.specs.inside.Guards.{mailed, IsSendRefusal}
+use Rattle.vt_kernel.specs.inside.Steps.{held_after_send}
 use Rattle.vt_kernel.proofs.PartLemmas.{stands-send, mail-sent}
 use Rattle.vt_kernel.proofs.SendLemmas.{count_of-counted, counted-raised, refused-send, count_sent, may_send-own, may_send-yes}
-use Rattle.vt_pool.specs.Share.{HeldPool, seen}
-use Rattle.vt_share.specs.Held.{share_of, IsShareInside}
+use Rattle.vt_pool.specs.inside.Share.{HeldPool, seen}
+use Rattle.vt_share.specs.inside.Held.{share_of, IsShareInside}
 use Rattle.vt_share.proofs.share.Share.letters_for.Goals as goal
 
 pub returns-then-v-worker-clause-refused : goal.returns-then-v-worker-clause-refused

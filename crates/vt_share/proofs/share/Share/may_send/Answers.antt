@@ -1,10 +1,10 @@
 use Rattle.std.proofs.Common.{◌≡◌, ◌<◌, ◌∙◌, inl, inr, false, nat_eq, length, sym, ap, refl, arith}
 use Rattle.std.proofs.lemmas.Bool.Decides.{nat_tests}
 use Rattle.vt_key.specs.declared.fault.Fault.TheVariants.{NotLawful, Exhausted}
-use Rattle.vt_model.specs.Simulation.{simulation_of}
-use Rattle.vt_steps.specs.Letters.{count_of}
-use Rattle.vt_steps.specs.PartSteps.{letters_for}
-use Rattle.vt_kernel.specs.Held.{HeldWorker}
+use Rattle.vt_model.specs.promise.Simulation.{simulation_of}
+use Rattle.vt_steps.specs.promise.Letters.{count_of}
+use Rattle.vt_steps.specs.promise.PartSteps.{letters_for}
+use Rattle.vt_kernel.specs.inside.Held.{HeldWorker}
 use Rattle.vt_kernel.proofs.SendLemmas.{count_of-counted, count_sent, may_send-yes, refused-send, sent-after}
 use Rattle.vt_share.proofs.share.Share.may_send.Goals as goal
 

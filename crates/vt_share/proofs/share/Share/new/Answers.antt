@@ -1,9 +1,9 @@
 use Rattle.std.proofs.Common.{◌≡◌, refl, sym, subst, arith}
 use Rattle.std.proofs.lemmas.List.Elements.{All-nil}
 use Rattle.vt_key.specs.declared.letter.Colour.TheVariants.{White}
-use Rattle.vt_steps.specs.Letters.{Counts}
-use Rattle.vt_kernel.specs.Held.{AllOwnMail, IsOwnMail, AreCounted}
-use Rattle.vt_share.specs.Held.{share_of}
+use Rattle.vt_steps.specs.promise.Letters.{Counts}
+use Rattle.vt_kernel.specs.inside.Held.{AllOwnMail, IsOwnMail, AreCounted}
+use Rattle.vt_share.specs.inside.Held.{share_of}
 use Rattle.vt_share.proofs.share.Share.new.Goals as goal
 
 none_counted : (counts : Counts) → counts ≡ record { white = 0; red = 0 } → AreCounted counts

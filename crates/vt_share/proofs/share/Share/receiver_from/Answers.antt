@@ -1,6 +1,6 @@
 use Rattle.std.proofs.Common.{◌≡◌, ◌<◌, ◌≤◌, ℕ, true, false, IfSome, IfNone, subst}
-use Rattle.vt_steps.specs.CellSteps.{may_send}
-use Rattle.vt_kernel.specs.Held.{HeldWorker}
+use Rattle.vt_steps.specs.promise.CellSteps.{may_send}
+use Rattle.vt_kernel.specs.inside.Held.{HeldWorker}
 use Rattle.vt_share.proofs.share.Share.receiver_from.Goals as goal
 
 pub returns-clause-first : goal.returns-clause-first

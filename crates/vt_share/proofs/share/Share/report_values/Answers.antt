@@ -1,10 +1,10 @@
 use Rattle.std.proofs.Common.{◌≡◌, ◌∙◌, ap}
-use Rattle.vt_key.specs.Letters.{other_colour}
-use Rattle.vt_key.specs.Times.{earlier}
-use Rattle.vt_model.specs.Settings.{end_of}
-use Rattle.vt_steps.specs.Letters.{least_time, count_of}
-use Rattle.vt_kernel.specs.Held.{HeldWorker}
-use Rattle.vt_kernel.specs.Guards.{held_letters}
+use Rattle.vt_key.specs.promise.Letters.{other_colour}
+use Rattle.vt_key.specs.promise.Times.{earlier}
+use Rattle.vt_model.specs.promise.Settings.{end_of}
+use Rattle.vt_steps.specs.promise.Letters.{least_time, count_of}
+use Rattle.vt_kernel.specs.inside.Held.{HeldWorker}
+use Rattle.vt_kernel.specs.inside.Guards.{held_letters}
 use Rattle.vt_kernel.proofs.ReportLemmas.{same-report}
 use Rattle.vt_share.proofs.share.Share.report_values.Goals as goal
 

@@ -1,6 +1,6 @@
 use Rattle.std.proofs.Common.{◌∙◌, sym, ap, subst}
-use Rattle.vt_pool.specs.Share.{HeldPool, seen}
-use Rattle.vt_share.specs.Held.{share_of, IsShareInside}
+use Rattle.vt_pool.specs.inside.Share.{HeldPool, seen}
+use Rattle.vt_share.specs.inside.Held.{share_of, IsShareInside}
 use Rattle.vt_share.proofs.share.Share.take_counts.Goals as goal
 
 pub invariant_of-self : goal.invariant_of-self

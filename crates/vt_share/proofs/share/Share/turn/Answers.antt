@@ -1,5 +1,5 @@
 use Rattle.std.proofs.Common.{◌∙◌, ap}
-use Rattle.vt_model.specs.Settings.{end_of}
+use Rattle.vt_model.specs.promise.Settings.{end_of}
 use Rattle.vt_kernel.proofs.PartLemmas.{stands-cut}
 use Rattle.vt_share.proofs.share.Share.turn.Goals as goal
 

@@ -1,4 +1,4 @@
-use Rattle.vt_places.specs.AtWork.{IsAtSameStation}
+use Rattle.vt_places.specs.inside.AtWork.{IsAtSameStation}
 use Rattle.vt_station.proofs.driver.Driver.home_all.Given as goal
 
 abbrev pub invariant-loop : goal.invariant-loop

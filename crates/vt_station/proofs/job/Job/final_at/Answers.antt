@@ -1,9 +1,9 @@
 use Rattle.std.proofs.Common.{◌≡◌, ◌+◌, ◌*◌, ◌<◌, length, refl, sym, ◌∙◌, ap, subst, Some, slice_get}
 use Rattle.std.proofs.lemmas.Bool.{ltb-true}
 use Rattle.std.proofs.lemmas.Option.{slice_get_read}
-use Rattle.vt_model.specs.Simulation.{simulation_of}
-use Rattle.vt_steps.specs.Finals.{final_value}
-use Rattle.vt_station.specs.Crew.{AtJob}
+use Rattle.vt_model.specs.promise.Simulation.{simulation_of}
+use Rattle.vt_steps.specs.inside.Finals.{final_value}
+use Rattle.vt_station.specs.inside.Crew.{AtJob}
 use Rattle.vt_places.proofs.FinalLemmas.{final-at, finals-there}
 use Rattle.vt_station.proofs.job.Job.final_at.Goals as goal
 

@@ -1,14 +1,14 @@
 use Rattle.std.proofs.Common.{◌≡◌, ℕ, List, refl, sym, ◌∙◌, ap, subst, Option, Some, None, Result, Vec, Global}
 use Rattle.std.specs.Option.{option_map}
 use Rattle.std.specs.Prelude.{IfOk}
-use Rattle.vt_key.specs.Times.{Time}
+use Rattle.vt_key.specs.promise.Times.{Time}
 use Rattle.vt_key.specs.declared.fault.Fault.{Fault}
 use Rattle.vt_model.specs.declared.rows.Record.{Record}
-use Rattle.vt_model.specs.Settings.{end_of}
-use Rattle.vt_model.specs.Simulation.{simulation_of}
-use Rattle.vt_places.specs.Told.{station_model, station_config, station_table, place_view}
+use Rattle.vt_model.specs.promise.Settings.{end_of}
+use Rattle.vt_model.specs.promise.Simulation.{simulation_of}
+use Rattle.vt_places.specs.inside.Told.{station_model, station_config, station_table, place_view}
 use Rattle.vt_station.specs.declared.driver.Outcome.TheVariants.{Closed}
-use Rattle.vt_station.specs.Crew.{AtJob, IsJob, IsPieceOf}
+use Rattle.vt_station.specs.inside.Crew.{AtJob, IsJob, IsPieceOf}
 use Rattle.vt_station.proofs.JobLemmas.{stands-taken, begun-still, left-still, piece-there, none-there}
 use Rattle.vt_station.specs.declared.job.Post.{Post}
 use Rattle.vt_station.specs.declared.job.Job.TheInside.{Inside}

@@ -1,14 +1,14 @@
 use Rattle.std.proofs.Common.{◌≡◌, refl, sym, subst, Some}
 use Rattle.std.specs.Prelude.{◌<◌, IfOk, IfErr}
 use Rattle.vt_key.specs.declared.fault.Fault.TheVariants.{Busy}
-use Rattle.vt_key.specs.Times.{Time}
+use Rattle.vt_key.specs.promise.Times.{Time}
 use Rattle.vt_model.specs.declared.settings.Config.{Config}
-use Rattle.vt_model.specs.Simulation.{simulation_of}
-use Rattle.vt_model.specs.Sequential.{seq_records}
-use Rattle.vt_model.specs.Settings.{end_of}
+use Rattle.vt_model.specs.promise.Simulation.{simulation_of}
+use Rattle.vt_model.specs.promise.Sequential.{seq_records}
+use Rattle.vt_model.specs.promise.Settings.{end_of}
 use Rattle.vt_places.specs.declared.view.View.{View}
 use Rattle.vt_station.specs.declared.driver.Outcome.TheVariants.{Closed}
-use Rattle.vt_station.specs.Crew.{AtJob, IsLeftBy}
+use Rattle.vt_station.specs.inside.Crew.{AtJob, IsLeftBy}
 use Rattle.vt_station.proofs.CrewLemmas.{closed-left, records-left}
 use Rattle.vt_station.proofs.JobLemmas.{stands-taken}
 use Rattle.vt_station.proofs.job.Job.into_records.Goals as goal

@@ -1,9 +1,9 @@
 use Rattle.std.proofs.Common.{Some, refl, sym, subst, inl}
 use Rattle.std.specs.Option.{option_map}
-use Rattle.vt_places.specs.Told.{station_model, station_config, station_table}
+use Rattle.vt_places.specs.inside.Told.{station_model, station_config, station_table}
 use Rattle.vt_key.specs.declared.fault.Fault.TheVariants.{Memory}
 use Rattle.vt_station.specs.declared.driver.Outcome.TheVariants.{Refused}
-use Rattle.vt_station.specs.Crew.{IsJob}
+use Rattle.vt_station.specs.inside.Crew.{IsJob}
 use Rattle.vt_station.proofs.JobLemmas.{stands-on}
 use Rattle.vt_station.proofs.job.Job.run.Goals as goal
 

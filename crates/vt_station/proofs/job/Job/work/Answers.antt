@@ -1,16 +1,16 @@
 use Rattle.std.specs.Option.{option_map}
 use Rattle.std.proofs.Common.{◌≡◌, refl, sym, ◌∙◌, subst, ap, inl, Some, IfSome}
 use Rattle.vt_key.specs.declared.fault.Fault.TheVariants.{Memory}
-use Rattle.vt_model.specs.Simulation.{simulation_of}
-use Rattle.vt_steps.specs.Finals.{worker_finals}
-use Rattle.vt_places.specs.Told.{station_model, station_config, station_table}
+use Rattle.vt_model.specs.promise.Simulation.{simulation_of}
+use Rattle.vt_steps.specs.inside.Finals.{worker_finals}
+use Rattle.vt_places.specs.inside.Told.{station_model, station_config, station_table}
 use Rattle.vt_places.specs.declared.view.View.{View}
 use Rattle.vt_places.proofs.FinalLemmas.{finals-told}
 use Rattle.vt_station.specs.declared.job.Post.{Post}
 use Rattle.vt_station.specs.declared.job.Job.TheInside.{Inside}
-use Rattle.vt_station.specs.Crew.{IsJob, StandsThere, IsLeftBy, view_of}
+use Rattle.vt_station.specs.inside.Crew.{IsJob, StandsThere, IsLeftBy, view_of}
 use Rattle.vt_station.specs.declared.driver.Outcome.TheVariants.{Refused}
-use Rattle.vt_station.specs.Turns.{HasEnded}
+use Rattle.vt_station.specs.inside.Turns.{HasEnded}
 use Rattle.vt_station.proofs.JobLemmas.{stands-taken, stands-from, not-begun, view-from, stands-on, same-job}
 use Rattle.vt_station.proofs.job.Job.work.Given.{Over}
 use Rattle.vt_station.proofs.job.Job.work.Goals.{in-Some+in-New-1, in-Some+in-Begun-1, in-Some+in-Left-1, in-None-8, in-Some-fault, in_default-fault, in-Some+in-New-2, in-Some+in-Begun-2, in-Some+in-Left-2, in-None-9}

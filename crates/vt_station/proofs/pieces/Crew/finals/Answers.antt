@@ -1,7 +1,7 @@
 use Rattle.std.proofs.Common.{◌≡◌, List, subst, sym}
 use Rattle.std.specs.Prelude.{IfOk}
-use Rattle.vt_model.specs.Simulation.{simulation_of}
-use Rattle.vt_station.specs.Crew.{AtCrew, AtJob, AllAt, AreInOrder, wanted_finals}
+use Rattle.vt_model.specs.promise.Simulation.{simulation_of}
+use Rattle.vt_station.specs.inside.Crew.{AtCrew, AtJob, AllAt, AreInOrder, wanted_finals}
 use Rattle.vt_station.proofs.pieces.Crew.finals.Goals as goal
 
 pub finals_of-requires-clause-told : goal.finals_of-requires-clause-told

@@ -1,15 +1,15 @@
 use Rattle.std.proofs.Common.{◌≡◌, ℕ, List, ◌∙◌, ap, subst, slice_index_or, Some, Ok, Err, IfSome, IfNone, Result}
 use Rattle.std.specs.Option.{unwrap_or}
 use Rattle.std.specs.Prelude.{IfOk}
-use Rattle.vt_key.specs.Times.{Time}
+use Rattle.vt_key.specs.promise.Times.{Time}
 use Rattle.vt_key.specs.declared.fault.Fault.{Fault}
 use Rattle.vt_model.specs.declared.rows.Record.{Record}
 use Rattle.vt_model.specs.declared.settings.Config.{Config}
-use Rattle.vt_model.specs.Settings.{end_of}
-use Rattle.vt_model.specs.Simulation.{simulation_of}
+use Rattle.vt_model.specs.promise.Settings.{end_of}
+use Rattle.vt_model.specs.promise.Simulation.{simulation_of}
 use Rattle.vt_station.specs.declared.pieces.Standing.TheVariants.{Whole}
 use Rattle.vt_station.specs.declared.driver.Outcome.TheVariants.{Closed}
-use Rattle.vt_station.specs.Crew.{AtJob, AtCrew, IsPieceOf, IsClosedAt, NoneClosed, StandsBy}
+use Rattle.vt_station.specs.inside.Crew.{AtJob, AtCrew, IsPieceOf, IsClosedAt, NoneClosed, StandsBy}
 use Rattle.vt_station.proofs.CrewLemmas.{reader-there, reader-closed}
 use Rattle.vt_station.proofs.pieces.Crew.hand_out.Given.{Over}
 use Rattle.vt_station.proofs.pieces.Crew.hand_out.Goals as goal

@@ -1,6 +1,6 @@
 use Rattle.std.proofs.Common.{◌<◌, List, length, sym, ◌∙◌, ap, subst}
 use Rattle.vt_station.specs.declared.pieces.Crew.TheInside.{Inside}
-use Rattle.vt_station.specs.Crew.{AtJob, AllAt, AreInOrder, StandsBy, IsCrew}
+use Rattle.vt_station.specs.inside.Crew.{AtJob, AllAt, AreInOrder, StandsBy, IsCrew}
 use Rattle.vt_station.proofs.CrewLemmas.{whole-again}
 use Rattle.vt_station.proofs.pieces.Crew.work.Given.{Over}
 use Rattle.vt_station.proofs.pieces.Crew.work.Goals.{in-GoesOn, in_default}

@@ -1,5 +1,6 @@
 use Rattle.std.proofs.Common.{◌≡◌, ◌+◌, ◌-◌, ◌%◌, ◌<◌, ◌^◌, ◌∙◌, slice_index, ap, arith, rules}
-use Rattle.vt_stream.specs.Words.{Stream, seed_key, word_of}
+use Rattle.vt_stream.specs.promise.Words.{seed_key}
+use Rattle.vt_stream.specs.inside.Words.{Stream, word_of}
 use Rattle.vt_stream.proofs.WordLemmas.{word_same}
 use Rattle.vt_stream.proofs.stream.LpStream.word.Goals as goal
 use Rattle.vt_stream.proofs.stream.LpStream.word.Goals.{then-at-self, else-at-self}

@@ -1,6 +1,6 @@
 use Rattle.std.proofs.Common.{◌∙◌, ap, sym, arith}
 use Rattle.std.specs.Slice.Iter.{chunks_rest}
-use Rattle.vt_text.specs.Records.{record_lines}
+use Rattle.vt_text.specs.promise.Records.{record_lines}
 use Rattle.vt_text.proofs.TextLemmas.{on_err}
 use Rattle.vt_tasks.proofs.ShareLemmas.{share_written, share_stops, all_written, none_yet}
 use Rattle.vt_tasks.proofs.printing.Shares.print_groups.Goals as goal

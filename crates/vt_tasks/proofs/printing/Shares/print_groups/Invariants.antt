@@ -1,6 +1,6 @@
 use Rattle.std.specs.Slice.Iter.{chunks_rest}
-use Rattle.vt_text.specs.Records.{record_lines}
-use Rattle.vt_text.specs.Writing.{AppendsAllButHeld}
+use Rattle.vt_text.specs.promise.Records.{record_lines}
+use Rattle.vt_text.specs.inside.Writing.{AppendsAllButHeld}
 use Rattle.vt_tasks.proofs.printing.Shares.print_groups.Given as goal
 
 -- the lines were written but for those of the groups that are left

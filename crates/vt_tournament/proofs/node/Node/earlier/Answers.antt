@@ -1,5 +1,5 @@
 use Rattle.std.proofs.Common.{nat_lt, if◌then◌else◌, ap, ◌∙◌}
-use Rattle.vt_tournament.specs.Contest.{Node, unpacked}
+use Rattle.vt_tournament.specs.inside.Contest.{Node, unpacked}
 use Rattle.vt_tournament.proofs.NodeLemmas.{chosen}
 use Rattle.vt_tournament.proofs.node.Node.earlier.Goals as goal
 

@@ -1,5 +1,5 @@
 use Rattle.std.proofs.Common.{◌≡◌, Bool, true, false, nat_lt, if◌then◌else◌, sym, ap, ◌∙◌}
-use Rattle.vt_tournament.specs.Contest.{Node, Contestant, contestant, is_ahead, packed}
+use Rattle.vt_tournament.specs.inside.Contest.{Node, Contestant, contestant, is_ahead, packed}
 use Rattle.vt_tournament.proofs.NodeLemmas.{decided, shared, node-chosen}
 use Rattle.vt_tournament.proofs.node.Node.winner.Goals as goal
 

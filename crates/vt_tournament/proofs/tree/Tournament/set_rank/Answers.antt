@@ -1,7 +1,7 @@
 use Rattle.std.proofs.Common.{◌≡◌, List, Option, None, slice_set, slice_index_or, sym, subst, ap, ◌∙◌}
 use Rattle.std.proofs.lemmas.List.{set-set, set-get_or}
 use Rattle.vt_key.specs.declared.order.Rank.{Rank}
-use Rattle.vt_tournament.specs.Contest.{IsTournamentOf}
+use Rattle.vt_tournament.specs.inside.Contest.{IsTournamentOf}
 use Rattle.vt_tournament.proofs.TreeLemmas.{set-nobody, none_of, told_none}
 use Rattle.vt_tournament.proofs.tree.Tournament.set_rank.Goals as goal
 

@@ -1,6 +1,6 @@
 use Rattle.std.proofs.Common.{sym, subst, ◌∙◌}
-use Rattle.vt_tournament.specs.Contest.{IsTournamentOf}
-use Rattle.vt_tournament.specs.Least.{IsLeast}
+use Rattle.vt_tournament.specs.inside.Contest.{IsTournamentOf}
+use Rattle.vt_tournament.specs.inside.Least.{IsLeast}
 use Rattle.vt_tournament.proofs.NodeLemmas.{told_somebody, told_nobody}
 use Rattle.vt_tournament.proofs.TreeLemmas.{first-least, nobody}
 use Rattle.vt_tournament.proofs.tree.Tournament.winner.Goals as goal

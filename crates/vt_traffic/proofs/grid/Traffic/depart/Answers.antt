@@ -1,12 +1,12 @@
 use Rattle.std.proofs.Common.{◌≡◌, ℕ, ◌+◌, [], ◌∷◌, ◌∙◌, ap, Some}
-use Rattle.vt_model.specs.Sends.{Outgoing, with_requests}
-use Rattle.vt_stream.specs.Words.{word_of}
+use Rattle.vt_model.specs.inside.Sends.{Outgoing, with_requests}
+use Rattle.vt_stream.specs.inside.Words.{word_of}
 use Rattle.vt_traffic.specs.declared.junction.Road.{Road}
 use Rattle.vt_traffic.specs.declared.junction.JunctionEvent.{JunctionEvent}
 use Rattle.vt_traffic.specs.declared.junction.JunctionEvent.TheVariants.{Arrive}
-use Rattle.vt_stream.specs.Drawn.{scaled}
-use Rattle.vt_traffic.specs.Junction.{gone}
-use Rattle.vt_traffic.specs.Traffic.{next_junction, passage, departed}
+use Rattle.vt_stream.specs.promise.Drawn.{scaled}
+use Rattle.vt_traffic.specs.inside.Junction.{gone}
+use Rattle.vt_traffic.specs.inside.Traffic.{next_junction, passage, departed}
 use Rattle.vt_stream.proofs.DrawLemmas.{word_after}
 use Rattle.vt_model.proofs.RequestLemmas.{recorded_then_sent}
 use Rattle.vt_traffic.proofs.grid.Traffic.depart.Goals as goal

@@ -1,12 +1,12 @@
 use Rattle.std.proofs.Common.{◌≡◌, ◌≤◌, [], ◌∷◌, ◌∙◌, sym, ap, length, Option, arith, lit<}
-use Rattle.vt_model.specs.Sends.{with_requests}
-use Rattle.vt_stream.specs.Words.{word_of}
+use Rattle.vt_model.specs.inside.Sends.{with_requests}
+use Rattle.vt_stream.specs.inside.Words.{word_of}
 use Rattle.vt_traffic.specs.declared.junction.Road.{Road}
 use Rattle.vt_traffic.specs.declared.junction.TheConstants.{WAITING}
 use Rattle.vt_traffic.specs.declared.junction.JunctionEvent.{JunctionEvent}
 use Rattle.vt_traffic.specs.declared.junction.JunctionEvent.TheVariants.{Leave}
-use Rattle.vt_traffic.specs.Junction.{waiting, entered, entry, gone}
-use Rattle.vt_traffic.specs.Traffic.{departure, departed, change_after, after_event, own_sends, own_records}
+use Rattle.vt_traffic.specs.inside.Junction.{waiting, entered, entry, gone}
+use Rattle.vt_traffic.specs.inside.Traffic.{departure, departed, change_after, after_event, own_sends, own_records}
 use Rattle.vt_model.proofs.RequestLemmas.{no_requests, record_count, recorded}
 use Rattle.vt_traffic.proofs.TrafficSteps.{none_left, with_own, all_asked}
 use Rattle.vt_traffic.proofs.grid.TrafficEventModel.forward.Goals as goal

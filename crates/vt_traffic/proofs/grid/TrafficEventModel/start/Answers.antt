@@ -1,10 +1,10 @@
 use Rattle.std.proofs.Common.{◌≡◌, ◌+◌, [], ◌∷◌, ◌∙◌, ap, None}
-use Rattle.vt_model.specs.Sends.{with_requests}
-use Rattle.vt_stream.specs.Words.{word_of}
+use Rattle.vt_model.specs.inside.Sends.{with_requests}
+use Rattle.vt_stream.specs.inside.Words.{word_of}
 use Rattle.vt_traffic.specs.declared.junction.Road.TheVariants.{Eastward}
-use Rattle.vt_stream.specs.Drawn.{scaled}
-use Rattle.vt_traffic.specs.Junction.{entry}
-use Rattle.vt_traffic.specs.Traffic.{change_after}
+use Rattle.vt_stream.specs.promise.Drawn.{scaled}
+use Rattle.vt_traffic.specs.inside.Junction.{entry}
+use Rattle.vt_traffic.specs.inside.Traffic.{change_after}
 use Rattle.vt_model.proofs.RequestLemmas.{sent_then}
 use Rattle.vt_traffic.proofs.grid.TrafficEventModel.start.Goals as goal
 

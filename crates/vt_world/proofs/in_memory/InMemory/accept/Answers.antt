@@ -1,7 +1,7 @@
 use Rattle.std.proofs.Common.{rules, refl}
 use Rattle.vt_key.specs.declared.fault.Fault.TheVariants.{NotLawful}
 use Rattle.vt_steps.specs.declared.step.Step.TheVariants.{Accept}
-use Rattle.vt_kernel.specs.Guards.{IsDone}
+use Rattle.vt_kernel.specs.inside.Guards.{IsDone}
 use Rattle.vt_world.proofs.StepLemmas.{step-refused, step-left}
 use Rattle.vt_world.proofs.Places.{worker-there, put-back}
 use Rattle.vt_world.proofs.LocalLemmas.{accept-why, does-quietly, inside-local, inside-kept, at-place}

@@ -1,5 +1,5 @@
 use Rattle.std.proofs.Common.{sym}
-use Rattle.vt_model.specs.Simulation.{simulation_of}
+use Rattle.vt_model.specs.promise.Simulation.{simulation_of}
 use Rattle.vt_world.proofs.CellLemmas.{closes, closes-inside}
 use Rattle.vt_world.proofs.in_memory.InMemory.close.Goals as goal
 

@@ -2,7 +2,7 @@ use Rattle.std.proofs.Common.{◌∙◌, ap, sym, refl}
 use Rattle.vt_key.specs.declared.fault.Fault.TheVariants.{NotLawful}
 use Rattle.vt_steps.specs.declared.step.Step.TheVariants.{Cut}
 use Rattle.vt_model.specs.declared.settings.Config.{Config}
-use Rattle.vt_model.specs.Settings.{end_of}
+use Rattle.vt_model.specs.promise.Settings.{end_of}
 use Rattle.vt_world.proofs.StepLemmas.{step-left}
 use Rattle.vt_world.proofs.Places.{worker-there}
 use Rattle.vt_world.proofs.CellLemmas.{board-put, cell-step, cell-inside}

@@ -2,7 +2,7 @@ use Rattle.std.proofs.Common.{ℕ, ◌∙◌, ap, sym, subst, refl, Some}
 use Rattle.vt_key.specs.declared.fault.Fault.TheVariants.{NotLawful}
 use Rattle.vt_model.specs.declared.settings.Config.{Config}
 use Rattle.vt_steps.specs.declared.step.Step.TheVariants.{Fetch}
-use Rattle.vt_kernel.specs.Held.{AllOwnMail}
+use Rattle.vt_kernel.specs.inside.Held.{AllOwnMail}
 use Rattle.vt_world.proofs.StepLemmas.{step-left}
 use Rattle.vt_world.proofs.Places.{own-mail, worker-there, inbox-there}
 use Rattle.vt_world.proofs.CellLemmas.{inbox-put, cell-step, cell-inside}

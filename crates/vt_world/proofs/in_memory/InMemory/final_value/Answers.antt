@@ -1,12 +1,12 @@
 use Rattle.std.proofs.Common.{◌≡◌, ◌<◌, ◌∙◌, ap, sym, subst, IfNone}
 use Rattle.std.specs.Prelude.{IsTrue}
 use Rattle.std.specs.Option.{option_copied}
-use Rattle.vt_model.specs.Sequential.{events_of, whole_run}
-use Rattle.vt_model.specs.Simulation.{simulation_of, after}
+use Rattle.vt_model.specs.promise.Sequential.{events_of, whole_run}
+use Rattle.vt_model.specs.promise.Simulation.{simulation_of, after}
 use Rattle.vt_model.proofs.LawLemmas.{lawful_of}
-use Rattle.vt_lp.specs.Held.{HeldProcess}
-use Rattle.vt_kernel.specs.Held.{process_of, IsProcessOf}
-use Rattle.vt_world.specs.Held.{HeldWorld}
+use Rattle.vt_lp.specs.inside.Held.{HeldProcess}
+use Rattle.vt_kernel.specs.inside.Held.{process_of, IsProcessOf}
+use Rattle.vt_world.specs.inside.Held.{HeldWorld}
 use Rattle.vt_world.proofs.Places.{owner-there, is-own}
 use Rattle.vt_world.proofs.FinalLemmas.{of-some, final-value}
 use Rattle.vt_world.proofs.in_memory.InMemory.final_value.Goals as goal

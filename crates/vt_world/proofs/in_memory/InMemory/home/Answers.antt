@@ -1,7 +1,7 @@
 use Rattle.std.proofs.Common.{rules, refl, ◌≡◌, None}
 use Rattle.vt_key.specs.declared.fault.Fault.TheVariants.{NotLawful}
 use Rattle.vt_steps.specs.declared.step.Step.TheVariants.{Home}
-use Rattle.vt_kernel.specs.Guards.{IsDone}
+use Rattle.vt_kernel.specs.inside.Guards.{IsDone}
 use Rattle.vt_world.proofs.StepLemmas.{step-left}
 use Rattle.vt_world.proofs.Places.{worker-there}
 use Rattle.vt_world.proofs.LocalLemmas.{does-quietly, refuses-locally, inside-local, inside-kept, at-place}

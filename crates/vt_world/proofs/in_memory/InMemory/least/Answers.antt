@@ -1,13 +1,13 @@
 use Rattle.std.proofs.Common.{◌≡◌, ℕ, ◌∙◌, map, sym, ap, subst}
 use Rattle.std.specs.List.{All, flat_map}
-use Rattle.vt_key.specs.Times.{earlier}
+use Rattle.vt_key.specs.promise.Times.{earlier}
 use Rattle.vt_key.specs.declared.letter.Mail.{Mail}
-use Rattle.vt_model.specs.Settings.{end_of}
-use Rattle.vt_steps.specs.Letters.{least_time}
-use Rattle.vt_kernel.specs.Guards.{held_letters}
-use Rattle.vt_kernel.specs.Held.{HeldWorker}
+use Rattle.vt_model.specs.promise.Settings.{end_of}
+use Rattle.vt_steps.specs.promise.Letters.{least_time}
+use Rattle.vt_kernel.specs.inside.Guards.{held_letters}
+use Rattle.vt_kernel.specs.inside.Held.{HeldWorker}
 use Rattle.vt_kernel.proofs.TimeLemmas.{least_time-append}
-use Rattle.vt_world.specs.Held.{HeldWorld, least_held}
+use Rattle.vt_world.specs.inside.Held.{HeldWorld, least_held}
 use Rattle.vt_world.proofs.LeastLemmas.{workers-end}
 use Rattle.vt_world.proofs.in_memory.InMemory.least.Goals as goal
 

@@ -1,10 +1,10 @@
 use Rattle.std.proofs.Common.{◌≡◌, ◌<◌, ◌≤◌, ◌⊎◌, inl, inr, subst, IfOk, IfErr, OnOk}
 use Rattle.std.proofs.lemmas.Result.{IfOk-weaker, IfErr-weaker, on_ok_weaker}
 use Rattle.vt_key.specs.declared.fault.Fault.TheVariants.{Memory, NotLawful}
-use Rattle.vt_model.specs.Simulation.{simulation_of}
-use Rattle.vt_steps.specs.World.{World}
-use Rattle.vt_world.specs.Held.{HeldWorld, StandsForWorld}
-use Rattle.vt_world.specs.Answers.{IsPastIn}
+use Rattle.vt_model.specs.promise.Simulation.{simulation_of}
+use Rattle.vt_steps.specs.promise.World.{World}
+use Rattle.vt_world.specs.inside.Held.{HeldWorld, StandsForWorld}
+use Rattle.vt_world.specs.promise.Answers.{IsPastIn}
 use Rattle.vt_world.proofs.Places.{owner-there}
 use Rattle.vt_world.proofs.PastLemmas.{own-process, no-process, past-in}
 use Rattle.vt_world.proofs.in_memory.InMemory.past.Goals as goal

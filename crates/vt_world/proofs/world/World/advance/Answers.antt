@@ -1,7 +1,7 @@
 use Rattle.std.proofs.Common.{subst}
 use Rattle.std.proofs.lemmas.Result.{IfErr-weaker}
-use Rattle.vt_model.specs.Simulation.{simulation_of}
-use Rattle.vt_world.specs.Calls.{IsStepOf}
+use Rattle.vt_model.specs.promise.Simulation.{simulation_of}
+use Rattle.vt_world.specs.promise.Calls.{IsStepOf}
 use Rattle.vt_world.proofs.RunLemmas.{passed}
 use Rattle.vt_world.proofs.world.World.advance.Goals as goal
 

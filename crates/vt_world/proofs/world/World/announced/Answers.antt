@@ -1,12 +1,12 @@
 use Rattle.std.proofs.Common.{◌≡◌, ◌∙◌, ap, sym, subst}
-use Rattle.vt_key.specs.Times.{TimeAtMost}
+use Rattle.vt_key.specs.promise.Times.{TimeAtMost}
 use Rattle.vt_model.proofs.LawLemmas.{lawful_of}
-use Rattle.vt_model.specs.Settings.{end_of}
-use Rattle.vt_model.specs.Simulation.{simulation_of}
-use Rattle.vt_steps.specs.World.{Board, least}
-use Rattle.vt_steps.specs.Next.{reached}
+use Rattle.vt_model.specs.promise.Settings.{end_of}
+use Rattle.vt_model.specs.promise.Simulation.{simulation_of}
+use Rattle.vt_steps.specs.promise.World.{Board, least}
+use Rattle.vt_steps.specs.promise.Next.{reached}
 use Rattle.vt_steps.proofs.book.HeadlineTheorem.{headline}
-use Rattle.vt_world.specs.Calls.{RunWorld}
+use Rattle.vt_world.specs.promise.Calls.{RunWorld}
 use Rattle.vt_world.proofs.world.World.announced.Goals as goal
 
 pub returns : goal.returns

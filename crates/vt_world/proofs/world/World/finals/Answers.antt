@@ -1,8 +1,8 @@
 use Rattle.std.proofs.Common.{◌≡◌, ℕ, [], ◌∷◌, ◌++◌, sym, ◌∙◌, subst}
-use Rattle.vt_model.specs.Simulation.{simulation_of, after}
-use Rattle.vt_model.specs.Sequential.{events_of, whole_run}
+use Rattle.vt_model.specs.promise.Simulation.{simulation_of, after}
+use Rattle.vt_model.specs.promise.Sequential.{events_of, whole_run}
 use Rattle.vt_model.proofs.RunLemmas.{map-next}
-use Rattle.vt_world.specs.Calls.{RunWorld}
+use Rattle.vt_world.specs.promise.Calls.{RunWorld}
 use Rattle.vt_world.proofs.world.World.finals.Goals as goal
 
 pub loop-lp-preserved : goal.loop-lp-preserved

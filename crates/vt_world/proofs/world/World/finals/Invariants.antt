@@ -1,7 +1,7 @@
 use Rattle.std.proofs.Common.{◌≡◌, map}
 use Rattle.std.specs.List.{range_with_len}
-use Rattle.vt_model.specs.Simulation.{simulation_of, after}
-use Rattle.vt_model.specs.Sequential.{events_of, whole_run}
+use Rattle.vt_model.specs.promise.Simulation.{simulation_of, after}
+use Rattle.vt_model.specs.promise.Sequential.{events_of, whole_run}
 use Rattle.vt_world.proofs.world.World.finals.Given as goal
 
 abbrev pub invariant-loop-lp : goal.invariant-loop-lp

@@ -1,13 +1,13 @@
 use Rattle.std.proofs.Common.{◌≡◌, ◌∙◌, ap, sym, subst}
 use Rattle.std.specs.Prelude.{IsTrue}
-use Rattle.vt_key.specs.Times.{TimeAtMost}
+use Rattle.vt_key.specs.promise.Times.{TimeAtMost}
 use Rattle.vt_model.proofs.LawLemmas.{lawful_of}
-use Rattle.vt_model.specs.Settings.{end_of}
-use Rattle.vt_model.specs.Simulation.{simulation_of}
-use Rattle.vt_steps.specs.World.{book_floor}
-use Rattle.vt_steps.specs.Next.{reached}
+use Rattle.vt_model.specs.promise.Settings.{end_of}
+use Rattle.vt_model.specs.promise.Simulation.{simulation_of}
+use Rattle.vt_steps.specs.promise.World.{book_floor}
+use Rattle.vt_steps.specs.promise.Next.{reached}
 use Rattle.vt_steps.proofs.book.HeadlineTheorem.{headline}
-use Rattle.vt_world.specs.Calls.{RunWorld}
+use Rattle.vt_world.specs.promise.Calls.{RunWorld}
 use Rattle.vt_world.proofs.world.World.floor.Goals as goal
 
 pub returns : goal.returns

@@ -1,12 +1,12 @@
 use Rattle.std.proofs.Common.{◌≡◌, ◌∙◌, refl, sym, subst}
-use Rattle.vt_key.specs.Times.{TimeAtMost}
+use Rattle.vt_key.specs.promise.Times.{TimeAtMost}
 use Rattle.vt_model.proofs.LawLemmas.{lawful_of}
-use Rattle.vt_model.specs.Settings.{end_of}
-use Rattle.vt_model.specs.Simulation.{simulation_of}
-use Rattle.vt_steps.specs.World.{least}
+use Rattle.vt_model.specs.promise.Settings.{end_of}
+use Rattle.vt_model.specs.promise.Simulation.{simulation_of}
+use Rattle.vt_steps.specs.promise.World.{least}
 use Rattle.vt_steps.proofs.book.HeadlineTheorem.{headline}
-use Rattle.vt_world.specs.Calls.{RunWorld}
-use Rattle.vt_world.specs.Answers.{IsReachedWorld}
+use Rattle.vt_world.specs.promise.Calls.{RunWorld}
+use Rattle.vt_world.specs.promise.Answers.{IsReachedWorld}
 use Rattle.vt_world.proofs.HeldLemmas.{least-same}
 use Rattle.vt_world.proofs.world.World.least.Goals as goal
 

@@ -1,11 +1,11 @@
 use Rattle.std.proofs.Common.{refl, subst, IfOk}
-use Rattle.vt_key.specs.Times.{Time, TimeAtMost}
+use Rattle.vt_key.specs.promise.Times.{Time, TimeAtMost}
 use Rattle.vt_model.proofs.LawLemmas.{lawful_of}
-use Rattle.vt_model.specs.Settings.{end_of}
-use Rattle.vt_model.specs.Simulation.{simulation_of}
-use Rattle.vt_steps.specs.World.{least}
-use Rattle.vt_world.specs.Calls.{RunWorld}
-use Rattle.vt_world.specs.Answers.{IsReachedWorld, IsPastIn, EndsSequential}
+use Rattle.vt_model.specs.promise.Settings.{end_of}
+use Rattle.vt_model.specs.promise.Simulation.{simulation_of}
+use Rattle.vt_steps.specs.promise.World.{least}
+use Rattle.vt_world.specs.promise.Calls.{RunWorld}
+use Rattle.vt_world.specs.promise.Answers.{IsReachedWorld, IsPastIn, EndsSequential}
 use Rattle.vt_world.proofs.PastLemmas.{ok-both, past-sequential}
 use Rattle.vt_world.proofs.world.World.past.Goals as goal
 

@@ -1,9 +1,9 @@
 use Rattle.std.proofs.Common.{◌∙◌, ap, refl, slice_index_or, subst, arith}
 use Rattle.std.proofs.lemmas.List.{take_more}
 use Rattle.std.proofs.Math.Nat.{le_refl}
-use Rattle.vt_model.specs.Simulation.{simulation_of}
+use Rattle.vt_model.specs.promise.Simulation.{simulation_of}
 use Rattle.vt_steps.specs.declared.step.Step.TheVariants.{Execute}
-use Rattle.vt_world.specs.Calls.{IsAnsweredBy}
+use Rattle.vt_world.specs.inside.Calls.{IsAnsweredBy}
 use Rattle.vt_world.proofs.RunLemmas.{run-none, answers-none, run-on, within-on, count-on}
 use Rattle.vt_world.proofs.world.World.run.Goals as goal
 

@@ -1,11 +1,11 @@
 use Rattle.std.proofs.Common.{◌≡◌, ◌≤◌, take}
 use Rattle.std.specs.Prelude.{IsTrue}
-use Rattle.vt_key.specs.Times.{TimeAtMost}
-use Rattle.vt_model.specs.Simulation.{simulation_of}
-use Rattle.vt_model.specs.Settings.{end_of}
-use Rattle.vt_steps.specs.Next.{run, answers}
-use Rattle.vt_steps.specs.World.{book_floor}
-use Rattle.vt_world.specs.Calls.{AreWithinLimits, refusals}
+use Rattle.vt_key.specs.promise.Times.{TimeAtMost}
+use Rattle.vt_model.specs.promise.Simulation.{simulation_of}
+use Rattle.vt_model.specs.promise.Settings.{end_of}
+use Rattle.vt_steps.specs.promise.Next.{run, answers}
+use Rattle.vt_steps.specs.promise.World.{book_floor}
+use Rattle.vt_world.specs.promise.Calls.{AreWithinLimits, refusals}
 use Rattle.vt_world.proofs.world.World.run.Given as goal
 
 abbrev pub invariant-loop-at : goal.invariant-loop-at

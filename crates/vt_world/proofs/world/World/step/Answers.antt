@@ -1,6 +1,6 @@
 use Rattle.std.proofs.Common.{subst}
 use Rattle.vt_model.proofs.LawLemmas.{lawful_of}
-use Rattle.vt_world.specs.Held.{IsHeldStepOf}
+use Rattle.vt_world.specs.inside.Held.{IsHeldStepOf}
 use Rattle.vt_world.proofs.TakenLemmas.{inside-ok, inside-err, taken-ok, taken-err}
 use Rattle.vt_world.proofs.world.World.step.Goals as goal
 

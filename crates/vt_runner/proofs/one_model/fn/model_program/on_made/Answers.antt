@@ -3,12 +3,12 @@ use Rattle.std.specs.Prelude.{codes}
 use Rattle.std.specs.Fn.{FnReturnsAt}
 use Rattle.std.proofs.KnownBytes.{Keeps-refl}
 use Rattle.vt_model.specs.declared.settings.Config.{Config}
-use Rattle.vt_options.specs.Processes.{IsUnsettled, Settles}
-use Rattle.vt_options.specs.Tasks.{task_config}
-use Rattle.vt_tasks.specs.Models.{any_handlers}
-use Rattle.vt_tasks.specs.Tasks.{BeginsWithinLimit}
+use Rattle.vt_options.specs.promise.Processes.{IsUnsettled, Settles}
+use Rattle.vt_options.specs.promise.Tasks.{task_config}
+use Rattle.vt_tasks.specs.promise.Models.{any_handlers}
+use Rattle.vt_tasks.specs.inside.Tasks.{BeginsWithinLimit}
 use Rattle.vt_tasks.proofs.TaskLemmas.{carried_out, counted_with, input_kept}
-use Rattle.vt_runner.specs.OneModel.{MakesBy, option_unsettled}
+use Rattle.vt_runner.specs.promise.OneModel.{MakesBy, option_unsettled}
 use Rattle.vt_runner.proofs.one_model.fn.model_program.on_made.Goals as goal
 
 pub carry_out-requires-clause-counted : goal.carry_out-requires-clause-counted

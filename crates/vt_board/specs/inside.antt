@@ -1,0 +1,4 @@
+pub mod BoardOfRun
+pub mod Calls
+pub mod Kept
+pub mod Passes

@@ -1,0 +1,4 @@
+pub mod Digits
+pub mod Slots
+pub mod Kept
+pub mod Order

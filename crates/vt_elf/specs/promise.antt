@@ -1,0 +1,4 @@
+pub mod Fields
+pub mod Executables
+pub mod Segments
+pub mod Symbols

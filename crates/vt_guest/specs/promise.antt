@@ -1,0 +1,5 @@
+pub mod Traps
+pub mod Calls
+pub mod Handling
+pub mod Handlers
+pub mod Loading

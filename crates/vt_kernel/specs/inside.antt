@@ -1,0 +1,5 @@
+pub mod Held
+pub mod Local
+pub mod Guards
+pub mod Settled
+pub mod Steps

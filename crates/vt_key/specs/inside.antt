@@ -1,0 +1,4 @@
+pub mod Keys
+pub mod Order
+pub mod Pairs
+pub mod Queues

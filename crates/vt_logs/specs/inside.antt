@@ -1,0 +1,4 @@
+pub mod Events
+pub mod Sheets
+pub mod Shelves
+pub mod Chains

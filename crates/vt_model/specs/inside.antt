@@ -1,0 +1,11 @@
+pub mod Settings
+pub mod Sends
+pub mod Out
+pub mod Handler
+pub mod Drawn
+pub mod Simulation
+pub mod Rows
+pub mod Process
+pub mod Histories
+pub mod Counts
+pub mod Within

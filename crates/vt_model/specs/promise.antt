@@ -1,0 +1,9 @@
+pub mod Settings
+pub mod Sends
+pub mod Handler
+pub mod Simulation
+pub mod Rows
+pub mod Sequential
+pub mod Histories
+pub mod Counts
+pub mod Flags

@@ -1,0 +1,4 @@
+pub mod Options
+pub mod Network
+pub mod NetworkLaws
+pub mod Packets

@@ -1,0 +1,5 @@
+pub mod Blocks
+pub mod First
+pub mod Lines
+pub mod Linked
+pub mod Place

@@ -1,0 +1,9 @@
+pub mod Line
+pub mod Programs
+pub mod Requests
+pub mod Own
+pub mod Asked
+pub mod Tasks
+pub mod Taken
+pub mod Shown
+pub mod Hints

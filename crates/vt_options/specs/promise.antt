@@ -1,0 +1,9 @@
+pub mod Line
+pub mod Table
+pub mod Settings
+pub mod Programs
+pub mod Requests
+pub mod Own
+pub mod Asked
+pub mod Tasks
+pub mod Processes

@@ -1,0 +1,9 @@
+pub mod View
+pub mod Steps
+pub mod Inside
+pub mod Forgotten
+pub mod Share
+pub mod Pool
+pub mod Opening
+pub mod Logged
+pub mod Executing

@@ -1,0 +1,5 @@
+pub mod Refusals
+pub mod Programs
+pub mod Guests
+pub mod Models
+pub mod Outcomes

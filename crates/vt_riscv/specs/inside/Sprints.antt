@@ -1,0 +1,42 @@
+-- Many steps in a row: the machine's place is that of an instruction made ready then.
+use Rattle.std.specs.Prelude.{◌≡◌, ℕ, ◌<◌, Bool, true, false, List, length}
+use Rattle.vt_riscv.specs.declared.ready.Head.{Head}
+use Rattle.vt_riscv.specs.declared.code.Code.{Code}
+use Rattle.vt_riscv.specs.declared.machine.Machine.{Machine}
+use Rattle.vt_riscv.specs.declared.machine.Stop.TheVariants.{Called}
+use Rattle.vt_riscv.specs.declared.sprint.Go.{Go}
+use Rattle.vt_riscv.specs.declared.sprint.Go.TheVariants as go
+use Rattle.vt_riscv.specs.inside.Readiness.{place_at, head_at, instruction_at}
+use Rattle.vt_riscv.specs.promise.Arithmetic.{sum}
+use Rattle.vt_riscv.specs.promise.Steps.{Turn, Ran, goes_on, stops, behind, is_misaligned, run_of}
+
+-- an instruction may begin where another jumps or branches to, if that is one of these
+abbrev pub IsAim : Code → List Head → ℕ → ℕ → ℕ → Type 0
+IsAim code heads immediate target k =
+    target < length heads → (place_at (head_at heads target).place ≡ sum (place_at (head_at heads k).place) immediate) × (is_misaligned code (place_at (head_at heads target).place) ≡ false)
+
+module _ {N : ℕ} where
+  -- the machine at an instruction
+  abbrev pub at_index : Machine N → List Head → ℕ → Machine N
+  at_index m heads k = record m { place = place_at (head_at heads k).place }
+
+  -- where the machine is after an instruction, by how it goes on. `Not` means that nothing was done
+  abbrev pub seen : Machine N → List Head → ℕ → ℕ → Go → Turn N
+  seen m heads immediate k go.Next = goes_on (record m { place = behind (at_index m heads k) (instruction_at heads immediate k) })
+  seen m heads immediate k (go.At to) = goes_on (at_index m heads to)
+  seen m heads immediate k (go.To place) = goes_on (record m { place = place })
+  seen m heads immediate k go.Called = stops Called (at_index m heads k)
+  seen m heads immediate k go.Not = goes_on m
+
+  -- and where it has to be, by what the instruction does to it
+  abbrev pub due : Machine N → Turn N → Go → Turn N
+  due m turn go.Next = turn
+  due m turn (go.At to) = turn
+  due m turn (go.To place) = turn
+  due m turn go.Called = turn
+  due m turn go.Not = goes_on m
+
+  -- what is left of a run, whose machine made some steps and perhaps stopped at a call
+  abbrev pub rest_of : Code → Machine N → ℕ → Bool → Ran N
+  rest_of code m left true = record { outcome = record { stop = Called; left = left }; machine = m }
+  rest_of code m left false = run_of code left m

@@ -1,0 +1,2 @@
+pub mod Rumour
+pub mod RumourLaws

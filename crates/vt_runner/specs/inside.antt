@@ -1,0 +1,2 @@
+pub mod OneModel
+pub mod Pieces

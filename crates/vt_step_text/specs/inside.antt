@@ -1,0 +1,3 @@
+pub mod StepText
+pub mod Replays
+pub mod StepLines

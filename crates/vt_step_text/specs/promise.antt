@@ -1,0 +1,4 @@
+pub mod Words
+pub mod StepText
+pub mod Replies
+pub mod Replays

@@ -1,0 +1,9 @@
+pub mod Rows
+pub mod World
+pub mod Copies
+pub mod Cells
+pub mod StandsFor
+pub mod Claims
+pub mod Laws
+pub mod Marked
+pub mod Finals

@@ -1,0 +1,12 @@
+pub mod Letters
+pub mod Rows
+pub mod World
+pub mod ProcessSteps
+pub mod PartSteps
+pub mod BoardSteps
+pub mod BookSteps
+pub mod CellSteps
+pub mod Actions
+pub mod Next
+pub mod Cells
+pub mod Claims

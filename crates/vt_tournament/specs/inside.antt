@@ -1,0 +1,3 @@
+pub mod Contest
+pub mod Fields
+pub mod Least

@@ -1,0 +1,5 @@
+pub mod Options
+pub mod Junction
+pub mod Traffic
+pub mod Cars
+pub mod TrafficLaws
