@@ -4,7 +4,7 @@ use Rattle.std.specs.List.{sum_by, list_all}
 use Rattle.std.proofs.lemmas.Bool.Decides.{nat_tests}
 use Rattle.std.proofs.lemmas.List.{map-append}
 use Rattle.std.proofs.lemmas.List.Elements.{filter-append}
-use Rattle.std.proofs.lemmas.List.Sums.{sum_by-cons, sum_by-append}
+use Rattle.std.proofs.lemmas.List.Sums.{sum_by-append}
 use Rattle.std.proofs.lemmas.Bool.{and_parts}
 use Rattle.vt_key.specs.promise.Times.{Time, time_before, time_at_most}
 use Rattle.vt_model.specs.declared.rows.Record.{Record}
@@ -12,40 +12,12 @@ use Rattle.vt_model.specs.declared.rows.Row.{Row}
 use Rattle.vt_model.specs.promise.Sequential.{rows_before, records_of}
 use Rattle.vt_steps.specs.promise.BookSteps.{may_commit}
 use Rattle.vt_steps.specs.promise.Rows.{rows_in_order}
-use Rattle.vt_steps.specs.inside.Rows.{NoneBefore, AreSameRows}
+use Rattle.vt_steps.specs.inside.Rows.{AreSameRows}
 use Rattle.vt_steps.specs.promise.Letters.{least_of}
-use Rattle.vt_book.specs.inside.Books.{RunBook, is_within, are_within, may_hand}
+use Rattle.vt_book.specs.inside.Books.{is_within, are_within}
 use Rattle.vt_book.specs.inside.Kept.{IsKept}
 use Rattle.vt_steps.proofs.time.Floors.{floor-at}
-use Rattle.vt_book.proofs.RowLists.{same-list_all, same-before, same-none, one-order, first-in-order, every-before, late-rows, order-apart, before-twice}
-
--- ---- rows that are taken out
-
--- of rows, one of which is before a time, that one first
-front-before : (t : Time) (row : Row) (rows : List Row) → time_before row.key.time t ≡ true → rows_before t (row ∷ rows) ≡ row ∷ rows_before t rows
-front-before t row rows e = ap (λ b. cond b (row ∷ rows_before t rows) (rows_before t rows)) e
-
--- the first in order of those before a time
-pub first-taken : (t : Time) (row : Row) (now rest : List Row) → time_before row.key.time t ≡ true → NoneBefore row rest → AreSameRows now (row ∷ rest) →
-    rows_in_order (rows_before t now) ≡ row ∷ rows_in_order (rows_before t rest)
-first-taken t row now rest early first same =
-    one-order (rows_before t now) (row ∷ rows_before t rest) (λ f. same-before t now (row ∷ rest) same f ∙ ap (sum_by f) (front-before t row rest early))
-    ∙ first-in-order row (rows_before t rest) (every-before _ t rest first)
-
--- the rows that are left, beside those that were there at first
-pub others-left : (t : Time) (row : Row) (start now rest : List Row) → time_before row.key.time t ≡ true → AreSameRows now (row ∷ rest) →
-    AreSameRows (start ++ rows_before t now) (rows_before t start ++ now) → AreSameRows (start ++ rows_before t rest) (rows_before t start ++ rest)
-others-left t row start now rest early same h f =
-    let a = h f in
-    let b = sum_by-append f start (rows_before t now) in
-    let c = sum_by-append f (rows_before t start) now in
-    let d = same f in
-    let e = sum_by-cons f row rest in
-    let g = same-before t now (row ∷ rest) same f ∙ ap (sum_by f) (front-before t row rest early) in
-    let k = sum_by-cons f row (rows_before t rest) in
-    let l = sum_by-append f start (rows_before t rest) in
-    let m = sum_by-append f (rows_before t start) rest in
-    omega arith
+use Rattle.vt_book.proofs.RowLists.{same-before, same-none, one-order, every-before, late-rows, order-apart, before-twice}
 
 -- ---- a lawful hand-in
 
@@ -79,17 +51,6 @@ lawful end floors w rows floor h = known (slice_get floors w) refl h
           rising = (let l : handed_in ≤ floor = grind (arith, nat_tests) in l);
           late = late-within (least_of end floors) handed_in floor rows (floor-at end floors w handed_in is) (and_parts (time_at_most floor end) _ both.1).1;
         }
-
--- the same rows are as lawful in another order
-pub same-lawful : (of : RunBook) (w : ℕ) (xs ys : List Row) (floor : Time) → AreSameRows xs ys → may_hand of w xs floor ≡ may_hand of w ys floor
-same-lawful of w xs ys floor h = ap (λ b. may_commit handed_in floor && (time_at_most floor of.end && b)) (within handed_in)
-  where
-    handed_in : Option Time
-    handed_in = slice_get of.book.floors w
-
-    within : (at : Option Time) → are_within at floor xs ≡ are_within at floor ys
-    within None = refl
-    within (Some from) = same-list_all (is_within from floor) xs ys h
 
 -- ---- what is kept after it
 
@@ -144,8 +105,3 @@ module _ (floor later : Time) (history rows : List Row) (shown : List Record) (w
         let k = sum_by-append f (rows_before later (history ++ rows)) rest in
         omega arith);
   }
-
--- with the new rows too, none that waits is before the floor
-pub late-after : (floor : Time) (history rows : List Row) (shown : List Record) (waiting all : List Row) → IsKept floor history shown waiting →
-    rows_before floor rows ≡ [] → AreSameRows all (waiting ++ rows) → rows_before floor all ≡ []
-late-after floor history rows shown waiting all kept late whole = late-all floor floor history rows shown waiting all all (omega arith) kept late whole

@@ -3,6 +3,8 @@ pub mod WaitingLemmas
 pub mod RowLists
 pub mod FloorLemmas
 pub mod KeptLemmas
-pub mod FallingLemmas
-pub mod RisingLemmas
+pub mod OrderLemmas
+pub mod WithinLemmas
+pub mod RunLemmas
+pub mod MovedLemmas
 pub mod CommitRows

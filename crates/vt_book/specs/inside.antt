@@ -1,3 +1,3 @@
 pub mod Books
 pub mod Kept
-pub mod Order
+pub mod Runs

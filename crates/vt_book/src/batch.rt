@@ -3,17 +3,20 @@
 ghost use Rattle.std.specs.Prelude.{◌≡◌, List, length, IfOk, IfErr};
 ghost use Rattle.vt_key.specs.declared.fault.Fault.TheVariants.{Memory};
 ghost use Rattle.vt_model.specs.declared.rows.Row.{Row as RowValue};
+ghost use Rattle.std.specs.List.{list_all};
 ghost use Rattle.vt_steps.specs.inside.Rows.{AreSameRows};
+ghost use Rattle.vt_book.specs.inside.Books.{is_within};
+ghost use Rattle.vt_book.specs.inside.Runs.{AreRising};
 
+use crate::order::put_in_order;
 use std::alloc::Global;
 use std::marker::Model;
-use vt_key::{Fault, Seen};
+use vt_key::{Fault, Seen, When};
 use vt_model::Row;
 
-/// Rows that a worker is going to hand in. Contracts see a list of them; the batch may hold the same rows, each as often, in another
-/// order.
+/// Rows that a worker is going to hand in. Contracts see a list of them; the batch holds the same rows, each as often, in rising order.
 ///
-/// A batch is made without the book, and a hand-in only moves its rows. It may go to another thread.
+/// A batch is made without the book, and a hand-in moves none of its rows. It may go to another thread.
 #[derive(Drop)]
 pub struct Batch {
     told: Seen<Row>,
@@ -23,13 +26,13 @@ pub struct Batch {
 impl Model for Batch {
     ghost use Rattle.std.specs.Prelude.{List};
     ghost use Rattle.vt_model.specs.declared.rows.Row.{Row};
-    ghost use Rattle.vt_steps.specs.inside.Rows.{AreSameRows};
+    ghost use Rattle.vt_book.specs.inside.Runs.{IsPrepared};
 
     ghost Value = { List Row };
 
     ghost view = { λ b. b.told.items };
 
-    ghost invariant = { λ b. AreSameRows b.told.items b.rows.items };
+    ghost invariant = { λ b. IsPrepared b.told.items b.rows.items };
 }
 
 impl Batch {
@@ -60,6 +63,8 @@ impl Batch {
         requires { AreSameRows told rows.items }
         ensures { result ≡ told }
     {
+        let mut rows = rows;
+        put_in_order(&mut rows);
         Batch {
             told: Seen::picked(),
             rows,
@@ -73,16 +78,23 @@ impl Batch {
         self.rows.len()
     }
 
-    /// The rows, in the order in which the batch holds them.
-    pub(crate) fn rows(&self) -> &[Row]
-        ensures { AreSameRows self.now result.now }
+    /// Whether the times of all rows are at least `from` and below `to`.
+    pub(crate) fn is_within(&self, from: When, to: When) -> bool
+        ensures { result ≡ list_all (is_within from to) self.now }
     {
-        self.rows.as_slice()
+        let Some(first) = self.rows.first() else {
+            return true;
+        };
+        let Some(last) = self.rows.last() else {
+            return true;
+        };
+        from <= first.key.when() && last.key.when() < to
     }
 
-    /// The same rows, taken out of the batch.
+    /// The rows in rising order, taken out of the batch.
     pub(crate) fn into_rows(self) -> Vec<Row>
-        ensures { AreSameRows self result.items }
+        ensures same { AreSameRows self result.items }
+        ensures rising { AreRising result.items }
     {
         self.rows
     }

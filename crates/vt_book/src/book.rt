@@ -13,7 +13,7 @@ ghost use Rattle.vt_book.specs.inside.Books.{may_hand, are_within, is_within, re
 
 use crate::batch::Batch;
 use crate::floors::Floors;
-use crate::waiting::{add, show_between};
+use crate::waiting::Waiting;
 use std::alloc::Global;
 use std::marker::Model;
 use std::mem;
@@ -36,7 +36,8 @@ pub struct Book {
     handed_out: usize,
     // The other records of rows below the floor.
     shown: Vec<Record>,
-    waiting: Vec<Row>,
+    // The rows that aren't below the floor.
+    waiting: Waiting,
     closed: bool,
 }
 
@@ -53,7 +54,7 @@ impl Model for Book {
       handed_out = b.handed_out;
     } };
 
-    ghost invariant = { λ b. IsBookInside (least_of b.end b.floors) b.history.items b.gone.items b.handed_out b.shown.items b.waiting.items };
+    ghost invariant = { λ b. IsBookInside (least_of b.end b.floors) b.history.items b.gone.items b.handed_out b.shown.items b.waiting };
 }
 
 impl Book {
@@ -71,7 +72,7 @@ impl Book {
             gone: Seen::picked(),
             handed_out: 0,
             shown: Vec::new(alloc),
-            waiting: Vec::new(alloc),
+            waiting: Waiting::new(alloc),
             closed: false,
         }
     }
@@ -95,12 +96,12 @@ impl Book {
         if !self.may_hand(worker, rows, floor) {
             return Err(Fault::NotLawful);
         }
-        let batch = Batch::new(*self.waiting.allocator(), rows)?;
+        let batch = Batch::new(*self.shown.allocator(), rows)?;
         self.take(worker, batch, floor)
     }
 
     /// Takes a prepared batch, as [`Book::hand`] takes rows. Memory is asked for at most twice: for records that will be shown,
-    /// and for rows that wait. A batch that is refused is dropped.
+    /// and for one more batch in the queue. A batch that is refused is dropped.
     pub fn hand_batch(&mut self, worker: u32, batch: Batch, floor: When) -> Result<(), Fault>
         ensures refused { IfSome (refusal_of_hand self.old worker batch floor) (λ fault. result ≡ Err fault) }
         ensures taken { refusal_of_hand self.old worker batch floor ≡ None → MatchResult result
@@ -129,13 +130,15 @@ impl Book {
             (λ fault. fault ≡ Memory) }
         ensures unchanged { IfErr result (λ _. self.new ≡ self.old) }
     {
-        make_room(&mut self.shown, self.waiting.len(), batch.len())?;
-        add(&mut self.waiting, batch.into_rows(), self.floors.is_one())?;
+        let Some(waiting) = self.waiting.len() else {
+            return Err(Fault::Memory);
+        };
+        make_room(&mut self.shown, waiting, batch.len())?;
+        self.waiting.add(batch.into_rows())?;
         self.history = Seen::picked();
-        let shown_to = self.floors.least(self.end);
         self.floors.set(worker, floor);
         let risen_to = self.floors.least(self.end);
-        show_between(&mut self.waiting, &mut self.shown, shown_to, risen_to);
+        self.waiting.show_before(&mut self.shown, risen_to);
         Ok(())
     }
 
@@ -153,7 +156,10 @@ impl Book {
     fn may_hand_batch(&self, worker: u32, batch: &Batch, floor: When) -> bool
         ensures { result ≡ may_hand self.now worker batch.now floor }
     {
-        self.may_hand(worker, batch.rows(), floor)
+        let Some(handed_in) = self.floors.get(worker) else {
+            return false;
+        };
+        handed_in <= floor && floor <= self.end && batch.is_within(handed_in, floor)
     }
 
     /// The book's floor: the least of the floors up to which the workers have handed in, which are 0 at first. No

@@ -39,11 +39,6 @@ impl Floors {
         }
     }
 
-    /// Whether there is one worker.
-    pub(crate) fn is_one(&self) -> bool {
-        self.workers == 1
-    }
-
     /// The floor of a worker; None if there is no such worker.
     pub(crate) fn get(&self, worker: u32) -> Option<When>
         ensures { result ≡ slice_get self.now worker }

@@ -5,11 +5,11 @@
 //! run it is closed.
 #![tactic(auto)]
 
-mod arrange;
 mod batch;
 mod book;
 mod floors;
-mod settle;
+mod order;
+mod run;
 mod waiting;
 
 pub use batch::Batch;

@@ -1,17 +1,11 @@
 -- How a book keeps its rows: the records of those that it shows, in the order of the rows, and the other rows.
 use Rattle.std.specs.Prelude.{◌≡◌, ℕ, List, ◌++◌, length}
-use Rattle.std.specs.List.Sorted.{IsSorted}
 use Rattle.vt_key.specs.promise.Times.{Time}
 use Rattle.vt_model.specs.declared.rows.Row.{Row}
 use Rattle.vt_model.specs.declared.rows.Record.{Record}
-use Rattle.vt_model.specs.contracts.rows.RowOrd.TheImpl.{ghosts}
 use Rattle.vt_model.specs.promise.Sequential.{rows_before, records_of}
 use Rattle.vt_steps.specs.promise.Rows.{rows_in_order}
 use Rattle.vt_steps.specs.inside.Rows.{AreSameRows}
-
--- rows in falling order: none is before the one that stands behind it
-abbrev pub AreFalling : List Row → Type 0
-AreFalling rows = IsSorted (λ x y. ghosts.cmp y x) rows
 
 -- what becomes of the rows that were handed in: the records of those before the floor are shown, in the order of the rows, and the
 -- other rows wait

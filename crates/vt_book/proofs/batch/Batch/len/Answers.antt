@@ -5,4 +5,4 @@ use Rattle.vt_book.proofs.batch.Batch.len.Goals as goal
 pub returns : goal.returns
 returns c =
     let held : c.len.result ≡ length c.self.inside.rows.items = search rules in
-    held ∙ sym (same-length c.self.inside.told.items c.self.inside.rows.items c.self.invariant) ∙ ap length c.self.view_is
+    held ∙ sym (same-length c.self.inside.told.items c.self.inside.rows.items c.self.invariant.same) ∙ ap length c.self.view_is
