@@ -1,6 +1,6 @@
 //! How a process starts, and how it executes the first of the pending events.
 
-ghost use Rattle.std.specs.Prelude.{◌≡◌, ◌<◌, ◌≤◌, ◌++◌, length, drop, IfOk, IfErr};
+ghost use Rattle.std.specs.Prelude.{◌≡◌, ◌+◌, ◌<◌, ◌≤◌, ◌++◌, length, drop, vec_len, vec_capacity, IfOk, IfErr};
 ghost use Rattle.vt_key.specs.promise.Times.{TimeBefore};
 ghost use Rattle.vt_key.specs.declared.fault.Fault.TheVariants.{Memory};
 ghost use Rattle.vt_key.specs.promise.Lists.{Among};
@@ -107,6 +107,20 @@ fn join<P: Copy>(
     let Ok(()) = pending.replace_first(out.sends()) else {
         return Err(Fault::Memory);
     };
-    let _ = records.extend_from_slice(out.records());
+    put_behind(records, out.records());
     Ok(())
+}
+
+/// Puts records behind others, for which there must be room.
+// Mostly there is one, and a call would cost more than its copy.
+#[inline(always)]
+fn put_behind(records: &mut Vec<Record>, more: &[Record])
+    requires { vec_len records.old + length more.now ≤ vec_capacity records.old }
+    ensures { records.new.items ≡ records.old.items ++ more.now }
+{
+    if more.len() != 1 || records.len() >= records.capacity() {
+        let _ = records.extend_from_slice(more);
+        return;
+    }
+    let _ = records.push(more[0]);
 }

@@ -92,6 +92,8 @@ impl<P: Copy> Calendar<P> {
     ///
     /// [`Fault::NotLawful`]: its day isn't one. [`Fault::Memory`]: it is, and memory was refused. After either no event has
     /// changed.
+    // It is done once for each event.
+    #[inline(always)]
     pub(crate) fn put(&mut self, event: &Sent<P>) -> Result<(), Fault>
         ensures put { IfOk result (λ _. IsPermutation (record { event = event.now } ∷ calendar_entries self.old.present.items self.old.days) (calendar_entries self.new.present.items self.new.days)) }
         ensures kept { IfErr result (λ fault. calendar_entries self.new.present.items self.new.days ≡ calendar_entries self.old.present.items self.old.days) }
@@ -119,15 +121,26 @@ impl<P: Copy> Calendar<P> {
     }
 
     /// Makes the first day that has an event the present one, if that has none.
+    #[inline(always)]
     pub(crate) fn settle(&mut self)
         ensures same { IsPermutation (calendar_entries self.old.present.items self.old.days) (calendar_entries self.new.present.items self.new.days) }
         ensures settled { NoneWithoutPresent self.new.present.items self.new.days }
         ensures base { (self.new.scale ≡ self.old.scale) × (self.new.base ≡ self.old.base) }
         ensures next { self.new.present.items ≡ [] → self.new.next ≡ self.old.next }
     {
-        if !self.present.is_empty() {
-            return;
+        if self.present.is_empty() {
+            self.open();
         }
+    }
+
+    /// Makes the first day that has an event the present one, which must have none.
+    fn open(&mut self)
+        requires { self.old.present.items ≡ [] }
+        ensures same { IsPermutation (calendar_entries self.old.present.items self.old.days) (calendar_entries self.new.present.items self.new.days) }
+        ensures settled { NoneWithoutPresent self.new.present.items self.new.days }
+        ensures base { (self.new.scale ≡ self.old.scale) × (self.new.base ≡ self.old.base) }
+        ensures next { self.new.present.items ≡ [] → self.new.next ≡ self.old.next }
+    {
         if let Some(day) = self.days.take_first(&mut self.present) {
             self.next = day + 1;
             self.fit.count_taken(self.present.len());

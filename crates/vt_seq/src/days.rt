@@ -74,6 +74,8 @@ impl<P: Copy> Days<P> {
     ///
     /// [`Fault::NotLawful`]: there is no such day. [`Fault::Memory`]: there is, and memory was refused. After either nothing
     /// changes.
+    // It is done once for each event.
+    #[inline(always)]
     pub(crate) fn put(&mut self, day: usize, event: &Sent<P>) -> Result<(), Fault>
         ensures put { IfOk result (λ _. IsPut day (record { event = event.now }) self.old self.new) }
         ensures kept { IfErr result (λ fault. self.new ≡ self.old) }
@@ -122,7 +124,24 @@ impl<P: Copy> Days<P> {
 /// Puts an event behind others.
 ///
 /// [`Fault::Memory`]: memory was refused, and nothing changes.
+#[inline(always)]
 fn push<P: Copy>(list: &mut Vec<Entry<P>>, event: &Sent<P>) -> Result<(), Fault>
+    ensures items { list.new.items ≡ (if is_ok result then list.old.items ++ record { event = event.now } ∷ [] else list.old.items) }
+    ensures refused { IfErr result (λ fault. fault ≡ Memory) }
+{
+    if list.len() >= list.capacity() {
+        return push_growing(list, event);
+    }
+    let Ok(()) = list.push(Entry { event: *event }) else {
+        return Err(Fault::Memory);
+    };
+    Ok(())
+}
+
+/// As [`push`], where there is no room yet.
+#[cold]
+#[inline(never)]
+fn push_growing<P: Copy>(list: &mut Vec<Entry<P>>, event: &Sent<P>) -> Result<(), Fault>
     ensures items { list.new.items ≡ (if is_ok result then list.old.items ++ record { event = event.now } ∷ [] else list.old.items) }
     ensures refused { IfErr result (λ fault. fault ≡ Memory) }
 {

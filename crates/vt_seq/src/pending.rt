@@ -1,7 +1,8 @@
 //! The events that are pending, in a calendar and a heap.
 
-ghost use Rattle.std.specs.Prelude.{◌≡◌, ◌+◌, ◌<◌, ◌≤◌, ◌++◌, [], false, length, drop, slice_get, slice_index_or, IfOk, IfErr, IsTrue, Some};
+ghost use Rattle.std.specs.Prelude.{◌≡◌, ◌+◌, ◌<◌, ◌≤◌, ◌++◌, [], ◌∷◌, false, length, drop, slice_get, slice_index_or, IfOk, IfErr, IfSome, IfNone, IsTrue, Some};
 ghost use Rattle.std.specs.BinaryHeap.{heap_items, heap_len, heap_capacity};
+ghost use Rattle.std.specs.List.Sorted.{IsPermutation};
 ghost use Rattle.vt_key.specs.declared.fault.Fault.TheVariants.{Memory};
 ghost use Rattle.vt_key.specs.promise.Times.{ticks_of};
 ghost use Rattle.vt_seq.specs.inside.Queue.{all_inserted, HaveNewKeys};
@@ -60,13 +61,7 @@ impl<P: Copy> PendingEvents<P> {
     pub(crate) fn first(&self) -> Option<Sent<P>>
         ensures { result ≡ slice_get self.now 0 }
     {
-        if is_far_first(&self.calendar, &self.far) {
-            let Some(entry) = self.far.peek() else {
-                return None;
-            };
-            return Some(entry.event);
-        }
-        let Some(entry) = self.calendar.first() else {
+        let Some(entry) = first_of(&self.calendar, &self.far) else {
             return None;
         };
         Some(entry.event)
@@ -125,6 +120,31 @@ fn is_far_first<P: Copy>(calendar: &Calendar<P>, far: &BinaryHeap<Entry<P>>) -> 
     far.event.key.is_before(&near.event.key)
 }
 
+/// The entry of least key of all.
+// It is one reference, so that the event is copied in one place.
+#[inline(always)]
+fn first_of<'a, P: Copy>(
+    calendar: &'a Calendar<P>,
+    far: &'a BinaryHeap<Entry<P>>,
+) -> Option<&'a Entry<P>>
+    requires queue { IsQueue (calendar_entries calendar.now.present.items calendar.now.days) (heap_items far.now) }
+    requires settled { NoneWithoutPresent calendar.now.present.items calendar.now.days }
+    ensures among { IfSome result (λ x. (others : _) × IsPermutation (calendar_entries calendar.now.present.items calendar.now.days ++ heap_items far.now) (x.now ∷ others)) }
+    ensures least { IfSome result (λ x. IsLeastEntry x.now (calendar_entries calendar.now.present.items calendar.now.days ++ heap_items far.now)) }
+    ensures nothing { IfNone result (calendar_entries calendar.now.present.items calendar.now.days ++ heap_items far.now ≡ []) }
+{
+    if is_far_first(calendar, far) {
+        let Some(entry) = far.peek() else {
+            unreachable!();
+        };
+        return Some(entry);
+    }
+    let Some(entry) = calendar.first() else {
+        return None;
+    };
+    Some(entry)
+}
+
 /// Removes the first of all events, which must be there. A calendar that is empty goes on from its tick.
 fn remove_first<P: Copy>(calendar: &mut Calendar<P>, far: &mut BinaryHeap<Entry<P>>)
     requires queue { IsQueue (calendar_entries calendar.old.present.items calendar.old.days) (heap_items far.old) }
@@ -149,6 +169,8 @@ fn remove_first<P: Copy>(calendar: &mut Calendar<P>, far: &mut BinaryHeap<Entry<
 }
 
 /// Puts events into the calendar, and those that it doesn't take into the heap, where there must be room for all.
+// It is done once for each event.
+#[inline(always)]
 fn put_all<P: Copy>(calendar: &mut Calendar<P>, far: &mut BinaryHeap<Entry<P>>, events: &[Sent<P>])
     requires room { heap_len far.old + length events.now ≤ heap_capacity far.old }
     requires queue { IsQueue (calendar_entries calendar.old.present.items calendar.old.days) (heap_items far.old) }
