@@ -1,16 +1,16 @@
 -- What holds of segments with which nothing is wrong.
-use Rattle.std.proofs.Common.{◌≡◌, ℕ, ◌+◌, ◌-◌, ◌^◌, ◌<◌, ◌≤◌, ◌&&◌, ◌⊎◌, Bool, true, false, not, cond, max, length, List, [], ◌∷◌, Option, Some, None, Result, Ok, refl, sym, ap, subst, ◌∙◌, ⊎_elim, inl, inr, arith}
+use Rattle.std.proofs.Common.{◌≡◌, ℕ, ◌+◌, ◌-◌, ◌^◌, ◌<◌, ◌≤◌, ◌&&◌, ◌⊎◌, Bool, true, false, not, cond, max, length, List, [], ◌∷◌, Option, Some, None, refl, sym, ap, subst, ◌∙◌, ⊎_elim, inl, inr, arith}
 use Rattle.std.proofs.lemmas.Bool.{and_parts, not-true, leb-true}
 use Rattle.std.proofs.Math.Nat.{le-max_left, le-max_right, max-le}
 use Rattle.std.specs.List.{AllByRecursion}
 use Rattle.std.specs.Option.{option_or}
-use Rattle.std.specs.Result.{result_err}
 use Rattle.vt_elf.specs.declared.refusal.Refusal.{Refusal}
 use Rattle.vt_elf.specs.declared.segment.Segment.{Segment}
 use Rattle.vt_elf.specs.declared.segment.Region.{Region}
 use Rattle.vt_elf.specs.declared.segment.Region.TheVariants.{Code, Constants, State}
 use Rattle.vt_elf.specs.declared.segment.TheConstants.{IMAGE, STATE, MAX_CODE, MAX_IMAGE, MAX_STATE}
 use Rattle.vt_elf.specs.promise.Segments.{unless, base_of, limit_of, is_executable, is_writable, region_of, is_in, region_fault, segment_fault, segments_fault, end_of, reach, code_end, image_end, state_end}
+use Rattle.vt_elf.specs.inside.Parts.{AreParts}
 use Rattle.vt_elf.specs.inside.Segments.{IsApart}
 
 -- the segment lies in its region, whole in a file of so many bytes
@@ -180,9 +180,9 @@ image_ends size ss all = reach_within Constants (code_end ss) (IMAGE + MAX_IMAGE
 pub state_ends : (size : ℕ) (ss : List Segment) → AllByRecursion (IsSound size) ss → state_end ss ≤ STATE + MAX_STATE
 state_ends size ss all = reach_within State STATE (STATE + MAX_STATE) ss (sound_ends State size ss all) (omega arith)
 
--- segments that were checked
-pub checked : (size : ℕ) (ss : List Segment) {T : Type 0} {value : T} {answer : Result T Refusal} → answer ≡ Ok value → result_err answer ≡ segments_fault size 0 true ss → AllByRecursion (IsSound size) ss
-checked size ss ok told = segments_sound size 0 true ss (sym told ∙ ap result_err ok)
+-- segments that were read and checked
+pub read_sound : (file : List ℕ) (ss found : List Segment) (section : ℕ) → ss ≡ found → AreParts file found section → AllByRecursion (IsSound (length file)) ss
+read_sound file ss found section same parts = segments_sound (length file) 0 true ss (ap (segments_fault (length file) 0 true) same ∙ parts.sound)
 
 -- no segment that was checked crosses a border of the image, or of the state, that were found
 pub apart_in_image : (file : List ℕ) (ss : List Segment) (code image : ℕ) → code ≡ reach Code IMAGE ss → image ≡ reach Constants code ss → AllByRecursion (IsSound (length file)) ss → AllByRecursion (IsApart file IMAGE (IMAGE + (image - IMAGE))) ss

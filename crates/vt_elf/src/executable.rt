@@ -4,13 +4,15 @@ ghost use Rattle.std.specs.Prelude.{◌≡◌, ◌⊎◌, ℕ, ◌+◌, ◌-◌,
 ghost use Rattle.vt_elf.specs.promise.Segments.{code_end, image_end, state_end, memory_byte};
 ghost use Rattle.vt_elf.specs.promise.Executables.{fault_of, segments, is_compressed, IsSymbolsOf};
 ghost use Rattle.vt_elf.specs.inside.Symbols.{IsTable};
+ghost use Rattle.vt_elf.specs.inside.Parts.{AreParts};
 ghost use Rattle.vt_elf.specs.declared.refusal.Refusal.TheVariants.{Memory};
 
 use crate::header::{check_header, is_compressed};
 use crate::loading::load;
 use crate::refusal::Refusal;
 use crate::segment::{
-    IMAGE, MAX_CODE, MAX_IMAGE, MAX_STATE, Region, STATE, check_segments, reach, read_segments,
+    IMAGE, MAX_CODE, MAX_IMAGE, MAX_STATE, Region, STATE, Segment, check_segments, reach,
+    read_segments,
 };
 use crate::symbols::{Symbols, find_symbols, names_section, section_bytes};
 use std::alloc::Global;
@@ -48,13 +50,11 @@ pub fn read_executable(alloc: Global, bytes: &[u8]) -> Result<Executable, Refusa
     ensures image_limit { IfOk result (λ executable. length executable.image.items ≤ MAX_IMAGE) }
     ensures state_limit { IfOk result (λ executable. length executable.first_state.items ≤ MAX_STATE) }
 {
-    check_header(bytes)?;
-    let Ok(found) = read_segments(alloc, bytes) else {
-        return Err(Refusal::Memory);
+    let (found, section) = match read_parts(alloc, bytes) {
+        Ok(parts) => parts,
+        Err(refusal) => return Err(refusal),
     };
     let segments = found.as_slice();
-    check_segments(segments, bytes.len())?;
-    let section = find_symbols(bytes)?;
     let code_end = reach(Region::Code, IMAGE, segments);
     let image_end = reach(Region::Constants, code_end, segments);
     let state_end = reach(Region::State, STATE, segments);
@@ -74,6 +74,26 @@ pub fn read_executable(alloc: Global, bytes: &[u8]) -> Result<Executable, Refusa
         first_state,
         symbols,
     })
+}
+
+/// The segments of a file that is such an executable, and which section is its symbol table.
+fn read_parts(alloc: Global, bytes: &[u8]) -> Result<(Vec<Segment>, usize), Refusal>
+    ensures refused { MatchResult result (λ _. fault_of bytes.now ≡ None) (λ refusal. (refusal ≡ Memory) ⊎ (fault_of bytes.now ≡ Some refusal)) }
+    ensures parts { IfOk result (λ parts. AreParts bytes.now parts.0.items parts.1) }
+{
+    if let Err(refusal) = check_header(bytes) {
+        return Err(refusal);
+    }
+    let Ok(found) = read_segments(alloc, bytes) else {
+        return Err(Refusal::Memory);
+    };
+    if let Err(refusal) = check_segments(found.as_slice(), bytes.len()) {
+        return Err(refusal);
+    }
+    match find_symbols(bytes) {
+        Ok(section) => Ok((found, section)),
+        Err(refusal) => Err(refusal),
+    }
 }
 
 /// The symbols of the table that is a section of the file.
