@@ -1,11 +1,7 @@
 -- A worker's processes after they committed, and the rows of what they commit.
-use Rattle.std.proofs.Common.{◌≡◌, ◌≢◌, ◌∙◌, ◌⊎◌, inl, inr, below_more, ℕ, zero, suc, ◌+◌, ◌-◌, ◌*◌, ◌<◌, ◌≤◌, List, [], ◌∷◌, ◌++◌, map, take, drop, length, slice_index_or, refl, sym, ap, subst, arith, Some, None, slice_get, slice_set}
-use Rattle.std.specs.List.{prefix_len}
-use Rattle.std.proofs.lemmas.Bool.{cases_lt}
+use Rattle.std.proofs.Common.{◌≡◌, ◌≢◌, ◌∙◌, below_more, ℕ, suc, ◌+◌, ◌*◌, ◌<◌, ◌≤◌, List, [], ◌∷◌, ◌++◌, map, take, length, slice_index_or, refl, sym, ap, subst, arith, Some, slice_get, slice_set}
 use Rattle.std.proofs.lemmas.List.{append-nil, append_assoc, take_more, length-take, length-set, get_or-set_same, get_or-set_other}
-use Rattle.std.proofs.lemmas.Option.{get_or_from_slice_get, slice_get_within, slice_get_cases, slice_get-get_or}
-use Rattle.vt_lp.specs.inside.Ripe.{rows_of_ripe}
-use Rattle.vt_lp.proofs.RipeLemmas.{rows-ripe}
+use Rattle.std.proofs.lemmas.Option.{get_or_from_slice_get, slice_get_within}
 use Rattle.vt_key.specs.promise.Times.{Time}
 use Rattle.vt_key.specs.declared.letter.Mail.{Mail}
 use Rattle.vt_model.specs.declared.rows.Row.{Row}
@@ -14,15 +10,13 @@ use Rattle.vt_model.specs.promise.Handler.{Handlers}
 use Rattle.vt_model.specs.promise.Simulation.{Simulation, simulation_of}
 use Rattle.vt_steps.specs.promise.Letters.{Counts}
 use Rattle.vt_steps.specs.promise.World.{LogicalProcess, Part, process_at}
-use Rattle.vt_steps.specs.promise.PartSteps.{process_after_commit, part_after_commit, ripe_rows, is_below}
-use Rattle.vt_steps.specs.inside.StandsFor.{StandsForProcess, StandForProcesses, entry_of}
+use Rattle.vt_steps.specs.promise.PartSteps.{process_after_commit, part_after_commit, ripe_rows}
+use Rattle.vt_steps.specs.inside.StandsFor.{StandsForProcess, StandForProcesses}
 use Rattle.vt_steps.proofs.steps.CommitRows.{rows_of_processes}
-use Rattle.vt_lp.specs.inside.Held.{HeldProcess, process_memory, remembered, StandsFor as ProcessStandsFor}
-use Rattle.vt_contest.specs.declared.contest.Contest.{Contest}
-use Rattle.vt_contest.specs.inside.Contest.{IsContestOf}
+use Rattle.vt_lp.specs.inside.Held.{HeldProcess, process_memory, StandsFor as ProcessStandsFor}
 use Rattle.vt_outbox.specs.inside.Outbox.{HeldOutbox}
 use Rattle.vt_kernel.specs.inside.Held.{HeldWorker, StandsFor, AreProcesses, IsWorkerInside}
-use Rattle.vt_kernel.specs.inside.Guards.{IsForgotten, HasForgotten}
+use Rattle.vt_kernel.specs.inside.Guards.{IsForgotten}
 use Rattle.vt_kernel.proofs.PartLemmas.{stands_along}
 use Rattle.vt_kernel.proofs.ProcessLemmas.{get-map_of, stands-at, process-at}
 
@@ -47,35 +41,6 @@ module _ {S P K : Type 0} (floor : Time) where
   are-forgotten config w base (x ∷ xs) [] f h = absurd f
   are-forgotten config w base (x ∷ xs) (y ∷ ys) f h = (f.0.lp ∙ h.0, f.0.config ∙ h.1, are-forgotten config w (base + 1) xs ys f.1 h.2)
 
-  -- a process without past events has nothing to forget
-  unforgotten : (q : HeldProcess S P K) → q.past ≡ [] → IsForgotten floor q q
-  unforgotten q none = record {
-    committed = λ handlers process s.
-        let gone : process.past ≡ [] = s.past ∙ ap (λ es. map entry_of (map (remembered handlers q.lp) es)) none in
-        let done : process.done ++ take (prefix_len (is_below floor) process.past) process.past ≡ process.done =
-        ap (λ es. process.done ++ take (prefix_len (is_below floor) es) es) gone ∙ append-nil process.done in
-        let past : drop (prefix_len (is_below floor) process.past) process.past ≡ process.past = ap (λ es. drop (prefix_len (is_below floor) es) es) gone ∙ sym gone in
-        let same : process_after_commit floor process ≡ process = λ j. record process { done = done j; past = past j } in
-        subst (ProcessStandsFor handlers q) (sym same) s;
-    lp = refl;
-    config = refl;
-    pending = refl;
-    waiting = refl;
-  }
-
-  -- of the processes one is changed
-  pub one-forgotten : (processes : List (HeldProcess S P K)) (place : ℕ) (q new : HeldProcess S P K) → slice_get processes place ≡ Some q
-      → ((handlers : Handlers S P K) (process : LogicalProcess P) → ProcessStandsFor handlers q process → ProcessStandsFor handlers new (process_after_commit floor process))
-      → (new.lp ≡ q.lp) × (new.config ≡ q.config) × (new.triple ≡ q.triple) × (new.pending ≡ q.pending) × (new.waiting ≡ q.waiting)
-      → HasForgotten floor place processes (slice_set processes place new)
-  one-forgotten processes place q new at committed same = record {
-    process = new;
-    forgotten = λ d.
-        subst (λ x. IsForgotten floor x new) (sym (get_or_from_slice_get processes place q d at))
-        (record { committed = committed; lp = same.0; config = same.1; pending = same.3; waiting = same.4 });
-    others = refl;
-  }
-
   -- the first ones have forgotten, and the others are as they were
   pub record HaveForgotten (from : ℕ) (old now : List (HeldProcess S P K)) : Type 0 where
     pub count : length now ≡ length old
@@ -83,37 +48,20 @@ module _ {S P K : Type 0} (floor : Time) where
     pub forgotten : (k : ℕ) (d : HeldProcess S P K) → k < from → IsForgotten floor (slice_index_or old k d) (slice_index_or now k d)
     pub left : (k : ℕ) (d : HeldProcess S P K) → from ≤ k → slice_index_or now k d ≡ slice_index_or old k d
 
-  -- some more, which have no past event, have nothing to forget
-  pub forgotten-skip : (from to : ℕ) (old now : List (HeldProcess S P K)) → HaveForgotten from old now → from ≤ to → to ≤ length old
-      → ((k : ℕ) (q : HeldProcess S P K) → from ≤ k → k < to → slice_get now k ≡ Some q → q.past ≡ []) → HaveForgotten to old now
-  forgotten-skip from to old now h later within none = record {
-    count = h.count;
-    within = within;
-    forgotten = λ k d less. go k d less (cases_lt k from);
-    left = λ k d more. h.left k d (omega (arith, later, more));
-  }
-    where
-      go : (k : ℕ) (d : HeldProcess S P K) → k < to → ((k < from) ⊎ (from ≤ k)) → IsForgotten floor (slice_index_or old k d) (slice_index_or now k d)
-      go k d less (inl before) = h.forgotten k d before
-      go k d less (inr after) =
-          let q : HeldProcess S P K = slice_index_or now k d in
-          let there : slice_get now k ≡ Some q = slice_get-get_or now k d (let count = h.count in omega (arith, count, less, within)) in
-          subst (λ x. IsForgotten floor x q) (h.left k d after) (unforgotten q (none k q after less there))
-
   -- and the next one has
-  pub forgotten-more : (place : ℕ) (old now new : List (HeldProcess S P K)) → HaveForgotten place old now → place < length old → HasForgotten floor place now new → HaveForgotten (place + 1) old new
-  forgotten-more place old now new h less f =
-      let q = f.process in
+  pub forgotten-more : (place : ℕ) (old now : List (HeldProcess S P K)) (q new : HeldProcess S P K) → HaveForgotten place old now → place < length old → slice_get now place ≡ Some q
+      → IsForgotten floor q new → HaveForgotten (place + 1) old (slice_set now place new)
+  forgotten-more place old now q new h less at f =
       let count = h.count in
+      let here = λ (d : HeldProcess S P K). subst (λ (x : HeldProcess S P K). IsForgotten floor x new) (sym (get_or_from_slice_get now place q d at) ∙ h.left place d (omega arith)) f in
       record {
-        count = ap length f.others ∙ length-set now place q ∙ count;
+        count = length-set now place new ∙ count;
         within = omega (arith, less);
-        forgotten = λ k d before. subst (λ (ps : List (HeldProcess S P K)). IsForgotten floor (slice_index_or old k d) (slice_index_or ps k d)) (sym f.others)
-            (below_more (λ (n : ℕ). IsForgotten floor (slice_index_or old n d) (slice_index_or (slice_set now place q) n d)) place
-            (λ n below. let other : n ≢ place = omega arith in subst (IsForgotten floor (slice_index_or old n d)) (sym (get_or-set_other now place n q d other)) (h.forgotten n d below))
-            (subst (IsForgotten floor (slice_index_or old place d)) (sym (get_or-set_same now place q d (omega (arith, count, less)))) (subst (λ (x : HeldProcess S P K). IsForgotten floor x q) (h.left place d (omega arith)) (f.forgotten d)))
-            k before);
-        left = λ k d more. let other : k ≢ place = omega arith in ap (λ (ps : List (HeldProcess S P K)). slice_index_or ps k d) f.others ∙ get_or-set_other now place k q d other ∙ h.left k d (omega arith);
+        forgotten = λ k d before. below_more (λ (n : ℕ). IsForgotten floor (slice_index_or old n d) (slice_index_or (slice_set now place new) n d)) place
+            (λ n below. let other : n ≢ place = omega arith in subst (IsForgotten floor (slice_index_or old n d)) (sym (get_or-set_other now place n new d other)) (h.forgotten n d below))
+            (subst (IsForgotten floor (slice_index_or old place d)) (sym (get_or-set_same now place new d (omega (arith, count, less)))) (here d))
+            k before;
+        left = λ k d more. let other : k ≢ place = omega arith in get_or-set_other now place k new d other ∙ h.left k d (omega arith);
       }
 
   pub stand-forgotten : (handlers : Handlers S P K) (config : Config) (w base : ℕ) (xs ys : List (HeldProcess S P K)) (processes : List (LogicalProcess P))
@@ -156,13 +104,12 @@ module _ {S P K : Type 0} where
       }
 
   -- how the fields of a worker go together then
-  pub inside-commit : {config : Config} {w : ℕ} {xs : List (HeldProcess S P K)} {outbox : HeldOutbox P} {arrived : List (Mail P)} {sent got : Counts} {serial : ℕ} {contest : Contest} →
-      (floor : Time) (ys : List (HeldProcess S P K)) (new_contest : Contest) → length ys ≡ length xs →
+  pub inside-commit : {config : Config} {w : ℕ} {xs : List (HeldProcess S P K)} {outbox : HeldOutbox P} {arrived : List (Mail P)} {sent got : Counts} {serial : ℕ} →
+      (floor : Time) (ys : List (HeldProcess S P K)) → length ys ≡ length xs →
       ((k : ℕ) (d : HeldProcess S P K) → k < length xs → IsForgotten floor (slice_index_or xs k d) (slice_index_or ys k d)) →
-      IsContestOf ys new_contest →
-      IsWorkerInside config w xs outbox arrived sent got serial contest →
-      IsWorkerInside config w ys outbox arrived sent got serial new_contest
-  inside-commit {config} {w} {xs} floor ys new_contest long each in_contest h = record {
+      IsWorkerInside config w xs outbox arrived sent got serial →
+      IsWorkerInside config w ys outbox arrived sent got serial
+  inside-commit {config} {w} {xs} floor ys long each h = record {
     known = h.known;
     all_there = long ∙ h.all_there;
     own_processes = are-forgotten floor config w 0 xs ys (forgotten-each floor xs ys long each) h.own_processes;
@@ -172,7 +119,6 @@ module _ {S P K : Type 0} where
     few_sent = h.few_sent;
     few_got = h.few_got;
     few_made = h.few_made;
-    in_contest = in_contest;
   }
 
 -- ---- rows
@@ -241,37 +187,3 @@ module _ {S P K : Type 0} (handlers : Handlers S P K) where
       ∙ ap (λ (n : ℕ). rows_of_processes sim held.worker held.floor 0 (take place part.processes) ++ ripe_rows sim (process_at sim held.worker n) held.floor p) (sym long)
       ∙ sym (rows-more sim held.worker held.floor 0 (take place part.processes) p)
       ∙ ap (rows_of_processes sim held.worker held.floor 0) (sym longer)
-
-  -- processes without past events have no row
-  rows-skip : (held : HeldWorker S P K) (part : Part P) (from more : ℕ) (rows : List Row) → StandsFor handlers held part →
-      AreProcesses held.config held.worker 0 held.processes → from + more ≤ length held.processes →
-      ((k : ℕ) (q : HeldProcess S P K) → from ≤ k → k < from + more → slice_get held.processes k ≡ Some q → q.past ≡ []) →
-      rows ≡ rows_of_processes (simulation_of handlers held.config) held.worker held.floor 0 (take from part.processes) →
-      rows ≡ rows_of_processes (simulation_of handlers held.config) held.worker held.floor 0 (take (from + more) part.processes)
-  rows-skip held part from zero rows s are within none so_far =
-      let same : from ≡ from + 0 = omega arith in
-      subst (λ n. rows ≡ rows_of_processes (simulation_of handlers held.config) held.worker held.floor 0 (take n part.processes)) same so_far
-  rows-skip held part from (suc more) rows s are within none so_far =
-      let same : (from + more) + 1 ≡ from + suc more = omega arith in
-      let before = rows-skip held part from more rows s are (omega arith) (λ k q later less at. none k q later (omega arith) at) so_far in
-      subst (λ n. rows ≡ rows_of_processes (simulation_of handlers held.config) held.worker held.floor 0 (take n part.processes)) same (go (slice_get_cases held.processes (from + more)).1 before)
-    where
-      go : ((q : HeldProcess S P K) × (from + more < length held.processes) × (slice_get held.processes (from + more) ≡ Some q) × (slice_index_or held.processes (from + more) q ≡ q)) ⊎ ((length held.processes ≤ from + more) × (slice_get held.processes (from + more) ≡ None))
-          → rows ≡ rows_of_processes (simulation_of handlers held.config) held.worker held.floor 0 (take (from + more) part.processes)
-          → rows ≡ rows_of_processes (simulation_of handlers held.config) held.worker held.floor 0 (take ((from + more) + 1) part.processes)
-      go (inl found) before =
-          let q = found.0 in
-          rows-next held part (from + more) q rows rows s are found.2 before
-          (λ h stands. sym (append-nil rows) ∙ ap (λ (others : List Row). rows ++ others) (sym (rows-ripe handlers held.floor q h stands ∙ ap (rows_of_ripe held.floor) (none (from + more) q (omega arith) (omega arith) found.2))))
-      go (inr beyond) before = (let past = beyond.0 in absurd (omega (arith, past, within)))
-
-  -- nor have those up to a place
-  pub rows-passed : (held : HeldWorker S P K) (part : Part P) (from to : ℕ) (rows : List Row) → StandsFor handlers held part →
-      AreProcesses held.config held.worker 0 held.processes → from ≤ to → to ≤ length held.processes →
-      ((k : ℕ) (q : HeldProcess S P K) → from ≤ k → k < to → slice_get held.processes k ≡ Some q → q.past ≡ []) →
-      rows ≡ rows_of_processes (simulation_of handlers held.config) held.worker held.floor 0 (take from part.processes) →
-      rows ≡ rows_of_processes (simulation_of handlers held.config) held.worker held.floor 0 (take to part.processes)
-  rows-passed held part from to rows s are later within none so_far =
-      let there : from + (to - from) ≡ to = omega (arith, later) in
-      subst (λ n. rows ≡ rows_of_processes (simulation_of handlers held.config) held.worker held.floor 0 (take n part.processes)) there
-      (rows-skip held part from (to - from) rows s are (omega (arith, there, within)) (λ k q after before at. none k q after (omega (arith, there, before)) at) so_far)

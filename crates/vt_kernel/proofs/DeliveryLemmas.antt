@@ -21,7 +21,6 @@ use Rattle.vt_steps.specs.inside.Cells.{local_step}
 use Rattle.vt_lp.specs.inside.Held.{HeldProcess, IsWithinRun, StandsFor as ProcessStandsFor}
 use Rattle.vt_lp.specs.inside.Guards.{holds_letter, IsDone as ProcessIsDone}
 use Rattle.vt_lp.proofs.AcceptLemmas.{accepted, accept-by}
-use Rattle.vt_contest.specs.declared.contest.Contest.{Contest}
 use Rattle.vt_outbox.specs.inside.Outbox.{HeldOutbox}
 use Rattle.vt_kernel.specs.inside.Held.{HeldWorker, StandsFor, AreProcesses, IsWorkerInside}
 use Rattle.vt_kernel.specs.inside.Guards.{IsDone}
@@ -156,8 +155,8 @@ module _ {S P K : Type 0} (handlers : Handlers S P K) (held : HeldWorker S P K) 
         ∙ ap (option_and_then (λ (mail : Mail P). deliver (simulation_of handlers held.config) part-mail-left mail.letter)) (ap (λ ms. slice_get ms i) h.arrived ∙ none)
 
 -- a letter that was found in the outbox is for one of the worker's processes, before the end of the run
-pub found-in : {S P K : Type 0} {config : Config} {w : ℕ} {processes : List (HeldProcess S P K)} {outbox : HeldOutbox P} {arrived : List (Mail P)} {sent got : Counts} {serial : ℕ} {contest : Contest}
-    → IsWorkerInside config w processes outbox arrived sent got serial contest → (letter : Letter P) → find (λ (l : Letter P). nat_eq (l.event.dest % config.workers) w) outbox.letters ≡ Some letter
+pub found-in : {S P K : Type 0} {config : Config} {w : ℕ} {processes : List (HeldProcess S P K)} {outbox : HeldOutbox P} {arrived : List (Mail P)} {sent got : Counts} {serial : ℕ}
+    → IsWorkerInside config w processes outbox arrived sent got serial → (letter : Letter P) → find (λ (l : Letter P). nat_eq (l.event.dest % config.workers) w) outbox.letters ≡ Some letter
     → (letter.event.dest % config.workers ≡ w) × IsWithinRun config.lps (end_of config) letter
 found-in {config = config} {w = w} {outbox = outbox} h letter is = (
   for-worker config.workers w letter.event.dest (find-passes (λ l. nat_eq (l.event.dest % config.workers) w) outbox.letters letter is),

@@ -1,3 +1,4 @@
+pub mod Written
 pub mod CommitLemmas
 pub mod FinalLemmas
 pub mod ProcessLemmas
@@ -14,8 +15,8 @@ pub mod SendLemmas
 pub mod TimeLemmas
 pub mod LimitLemmas
 pub mod LocalLemmas
+pub mod ReadyLemmas
+pub mod ChoosingLemmas
 pub mod DeliveryLemmas
 pub mod SettledWorker
-pub mod ChoosingLemmas
-pub mod ReadyLemmas
 pub mod ReentryLemmas

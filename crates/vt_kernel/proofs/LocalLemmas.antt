@@ -20,9 +20,7 @@ use Rattle.vt_steps.specs.inside.StandsFor.{ProcessMemory, StandForProcesses}
 use Rattle.vt_lp.specs.inside.Held.{HeldProcess, process_memory, AllWithinRun, StandsFor as ProcessStandsFor}
 use Rattle.vt_lp.specs.inside.Guards.{IsDone as ProcessIsDone}
 use Rattle.vt_steps.proofs.lists.Places.{get-put_other}
-use Rattle.vt_contest.specs.declared.contest.Contest.{Contest}
-use Rattle.vt_contest.specs.inside.Contest.{IsContestOf}
-use Rattle.vt_contest.proofs.Written.{put-there}
+use Rattle.vt_kernel.proofs.Written.{put-there}
 use Rattle.vt_outbox.specs.inside.Outbox.{HeldOutbox}
 use Rattle.vt_kernel.specs.inside.Held.{HeldWorker, IsWorkerInside, StandsFor, AreProcesses, process_of}
 use Rattle.vt_kernel.specs.inside.Guards.{IsDone}
@@ -56,8 +54,8 @@ index-get (y ∷ ys) (suc i) x within is = index-get ys i x (omega arith) is
 abbrev pub IsOwnPlace : Config → ℕ → ℕ → ℕ → Type 0
 IsOwnPlace config w p place = (place ≡ p / config.workers) × (p % config.workers ≡ w) × (p < config.lps)
 
-module _ {S P K : Type 0} {config : Config} {w : ℕ} {processes : List (HeldProcess S P K)} {outbox : HeldOutbox P} {arrived : List (Mail P)} {sent got : Counts} {serial : ℕ} {contest : Contest}
-    (h : IsWorkerInside config w processes outbox arrived sent got serial contest) where
+module _ {S P K : Type 0} {config : Config} {w : ℕ} {processes : List (HeldProcess S P K)} {outbox : HeldOutbox P} {arrived : List (Mail P)} {sent got : Counts} {serial : ℕ}
+    (h : IsWorkerInside config w processes outbox arrived sent got serial) where
   -- the place of one of the worker's processes is within
   pub place-within : {p place : ℕ} → IsOwnPlace config w p place → place < length processes
   place-within {p} own =
@@ -67,12 +65,12 @@ module _ {S P K : Type 0} {config : Config} {w : ℕ} {processes : List (HeldPro
       let is = own.0 in
       omega (arith, known, all, is)
 
-  -- a process that has changed and has entered the contest again, with what was made by it
-  pub inside-changed : (place : ℕ) {q : HeldProcess S P K} (new : HeldProcess S P K) {letters : HeldOutbox P} {next : ℕ} {now : List (HeldProcess S P K)} {new_contest : Contest}
-      → slice_get processes place ≡ Some q → (new.lp ≡ q.lp) × (new.config ≡ q.config) → now ≡ slice_set processes place new
-      → IsContestOf now new_contest → AllWithinRun config letters.letters → letters.config ≡ config → next ≤ MAX_COUNT
-      → IsWorkerInside config w (slice_set processes place new) letters arrived sent got next new_contest
-  inside-changed place {q} new {letters} {next} {now} {new_contest} at same is in_contest within by few =
+  -- a process that has changed, with what was made by it
+  pub inside-changed : (place : ℕ) {q : HeldProcess S P K} (new : HeldProcess S P K) {letters : HeldOutbox P} {next : ℕ}
+      → slice_get processes place ≡ Some q → (new.lp ≡ q.lp) × (new.config ≡ q.config)
+      → AllWithinRun config letters.letters → letters.config ≡ config → next ≤ MAX_COUNT
+      → IsWorkerInside config w (slice_set processes place new) letters arrived sent got next
+  inside-changed place {q} new at same within by few =
       let who = process-at config w 0 place processes q h.own_processes at in
       record {
         known = h.known;
@@ -84,7 +82,6 @@ module _ {S P K : Type 0} {config : Config} {w : ℕ} {processes : List (HeldPro
         few_sent = h.few_sent;
         few_got = h.few_got;
         few_made = few;
-        in_contest = subst (λ ps. IsContestOf ps new_contest) is in_contest;
       }
 
 -- as many processes stand for as there are
@@ -190,9 +187,6 @@ module _ {S P K : Type 0} (handlers : Handlers S P K) (held : HeldWorker S P K) 
 -- a process that was written as it was leaves them all
 pub written-same : {X : Type 0} (xs : List X) (i : ℕ) (old new : X) → slice_get xs i ≡ Some old → new ≡ old → slice_set xs i new ≡ xs
 written-same xs i old new there same = ap (λ x. slice_set xs i x) same ∙ put-there xs i old there
-
-pub written-back : {X : Type 0} (xs : List X) (i : ℕ) {old new : X} → i < length xs → old ≡ slice_index_or xs i old → new ≡ old → slice_set xs i new ≡ xs
-written-back xs i {old} {new} within is same = written-same xs i old new (index-get xs i old within (sym is)) same
 
 -- the process that was found is that of its number
 pub own-process : {S P K : Type 0} (held : HeldWorker S P K) {p place : ℕ} {q : HeldProcess S P K} → IsOwnPlace held.config held.worker p place → slice_get held.processes place ≡ Some q → process_of held p ≡ Some q

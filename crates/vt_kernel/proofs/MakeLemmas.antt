@@ -1,5 +1,5 @@
 -- The starts of a worker's processes: how many there are, and what they send.
-use Rattle.std.proofs.Common.{◌≡◌, ◌∙◌, ℕ, zero, suc, ◌+◌, ◌-◌, ◌*◌, ◌/◌, ◌%◌, ◌<◌, ◌≤◌, List, [], ◌∷◌, ◌++◌, map, replicate, length, slice_index_or, refl, sym, ap, subst, arith}
+use Rattle.std.proofs.Common.{◌≡◌, ◌∙◌, ℕ, zero, suc, ◌+◌, ◌-◌, ◌*◌, ◌/◌, ◌%◌, ◌<◌, ◌≤◌, List, [], ◌∷◌, ◌++◌, map, replicate, length, refl, sym, ap, subst, arith}
 use Rattle.std.specs.List.{All, flat_map, range_with_len}
 use Rattle.std.proofs.lemmas.List.{append-nil, append_assoc, length-append}
 use Rattle.std.proofs.lemmas.List.Elements.{All-head, All-tail}
@@ -17,10 +17,8 @@ use Rattle.vt_model.specs.promise.Simulation.{Simulation, simulation_of, start_o
 use Rattle.vt_model.proofs.LawLemmas.{are_words, lawful_of}
 use Rattle.vt_steps.specs.promise.Letters.{stamped}
 use Rattle.vt_steps.specs.promise.World.{process_at, process_count, start_sends}
-use Rattle.vt_steps.specs.inside.StandsFor.{StandsForProcess, StandForProcesses, entry_of}
-use Rattle.vt_past.specs.declared.event.PastEvent.{PastEvent}
-use Rattle.vt_lp.specs.inside.Held.{HeldProcess, process_memory, remembered, StandsFor as ProcessStandsFor, opening_process}
-use Rattle.vt_contest.specs.inside.Contest.{IsIdle}
+use Rattle.vt_steps.specs.inside.StandsFor.{StandsForProcess, StandForProcesses}
+use Rattle.vt_lp.specs.inside.Held.{HeldProcess, process_memory, StandsFor as ProcessStandsFor, opening_process}
 use Rattle.vt_kernel.specs.inside.Held.{AreProcesses}
 
 -- ---- lists
@@ -164,17 +162,6 @@ module _ {S P K : Type 0} where
     -- a process that has only started
     abbrev pub IsOpening : HeldProcess S P K → Type 0
     IsOpening held = ProcessStandsFor handlers held opening_process
-
-    -- it has no letter and no past event
-    idle-opening : (held : HeldProcess S P K) → IsOpening held → IsIdle held
-    idle-opening held s = record { pending = sym s.pending; waiting = sym s.waiting; past = go held.past s.past }
-      where
-        go : (es : List (PastEvent P K)) → opening_process.past ≡ map entry_of (map (remembered handlers held.lp) es) → es ≡ []
-        go [] e = refl
-        go (e ∷ es) is = absurd (let h : [] ≡ entry_of (remembered handlers held.lp e) ∷ map entry_of (map (remembered handlers held.lp) es) = is in cc)
-
-    pub all-idle : (xs : List (HeldProcess S P K)) → All IsOpening xs → All IsIdle xs
-    all-idle xs all = λ k d within. idle-opening (slice_index_or xs k d) (all k d within)
 
     stand-all : (config : Config) (w base : ℕ) (xs : List (HeldProcess S P K)) → AreProcesses config w base xs → All IsOpening xs →
         StandForProcesses (simulation_of handlers config) w base (map (process_memory handlers) xs) (replicate (length xs) opening_process)

@@ -12,8 +12,6 @@ use Rattle.vt_steps.specs.promise.World.{LogicalProcess}
 use Rattle.vt_steps.specs.promise.ProcessSteps.{ProcessEffect}
 use Rattle.vt_lp.specs.inside.Held.{HeldProcess, AllWithinRun, IsWithinRun}
 use Rattle.vt_lp.specs.inside.Guards.{IsDone as ProcessIsDone}
-use Rattle.vt_contest.specs.declared.contest.Contest.{Contest}
-use Rattle.vt_contest.specs.inside.Contest.{IsContestOf}
 use Rattle.vt_outbox.specs.inside.Outbox.{HeldOutbox}
 use Rattle.vt_kernel.specs.inside.Held.{HeldWorker, IsWorkerInside}
 use Rattle.vt_kernel.specs.inside.Settled.{IsSettledTo}
@@ -27,9 +25,6 @@ module _ {P : Type 0} (outbox : HeldOutbox P) {put : HeldOutbox P} (sent : List 
   -- where nothing was sent, it has the letters that it had
   pub put-kept : sent ≡ empty → put.letters ≡ outbox.letters
   put-kept same = behind ∙ ap (λ (ls : List (Letter P)). outbox.letters ++ ls) (same ∙ none) ∙ append-nil outbox.letters
-
-  pub put-nothing : sent ≡ empty → put ≡ outbox
-  put-nothing same = is ∙ (λ j. record outbox { letters = (sym behind ∙ put-kept same) j })
 
   -- where the process was written as it was too, the worker is seen as before
   pub put-seen : {S K : Type 0} (held : HeldWorker S P K) (place : ℕ) {old new : HeldProcess S P K} {serial : ℕ} → slice_get held.processes place ≡ Some old → held.outbox ≡ outbox.letters
@@ -67,15 +62,15 @@ module _ {P : Type 0} (outbox : HeldOutbox P) {put : HeldOutbox P} (sent : List 
     no_cancel = settled.no_cancel;
   }
 
-  -- how a worker's fields go together once one of its processes has changed and entered the contest again
-  module _ {S K : Type 0} {config : Config} {w : ℕ} {processes : List (HeldProcess S P K)} {arrived : List (Mail P)} {out got : Counts} {serial : ℕ} {contest : Contest}
-      (h : IsWorkerInside config w processes outbox arrived out got serial contest) where
-    pub inside-put : (place : ℕ) {old : HeldProcess S P K} (new : HeldProcess S P K) {now : List (HeldProcess S P K)} {entered : Contest} {next : ℕ}
-        → slice_get processes place ≡ Some old → (new.lp ≡ old.lp) × (new.config ≡ old.config) → now ≡ slice_set processes place new → IsContestOf now entered
-        → (AllWithinRun old.config empty → AllWithinRun old.config sent) → next ≤ MAX_COUNT → IsWorkerInside config w (slice_set processes place new) put arrived out got next entered
-    inside-put place {old} new at same now_is in_contest more few =
+  -- how a worker's fields go together once one of its processes has changed
+  module _ {S K : Type 0} {config : Config} {w : ℕ} {processes : List (HeldProcess S P K)} {arrived : List (Mail P)} {out got : Counts} {serial : ℕ}
+      (h : IsWorkerInside config w processes outbox arrived out got serial) where
+    pub inside-put : (place : ℕ) {old : HeldProcess S P K} (new : HeldProcess S P K) {next : ℕ}
+        → slice_get processes place ≡ Some old → (new.lp ≡ old.lp) × (new.config ≡ old.config)
+        → (AllWithinRun old.config empty → AllWithinRun old.config sent) → next ≤ MAX_COUNT → IsWorkerInside config w (slice_set processes place new) put arrived out got next
+    inside-put place {old} new at same more few =
         let each = IsWithinRun {P = P} config.lps (end_of config) in
         let within = subst (λ (k : Config). AllWithinRun k empty → AllWithinRun k sent) (process-at config w 0 place processes old h.own_processes at).1 more in
-        inside-changed h place new at same now_is in_contest
+        inside-changed h place new at same
         (subst (AllWithinRun config) (sym behind) (All-append each outbox.letters sent h.sendable (within (subst (AllWithinRun config) (sym none) (All-nil each)))))
         (ap (λ (o : HeldOutbox P). o.config) is ∙ h.by_worker) few

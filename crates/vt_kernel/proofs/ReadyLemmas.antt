@@ -14,7 +14,7 @@ use Rattle.vt_steps.specs.promise.PartSteps.{with_effect}
 use Rattle.vt_steps.specs.inside.Cells.{local_step}
 use Rattle.vt_lp.specs.inside.Held.{HeldProcess, StandsFor as ProcessStandsFor}
 use Rattle.vt_lp.specs.inside.Guards.{may_come_after, ready_rank}
-use Rattle.vt_contest.specs.inside.Entries.{ready_of}
+use Rattle.vt_kernel.specs.inside.Choosing.{ready_of}
 use Rattle.vt_kernel.specs.inside.Held.{HeldWorker, StandsFor, AreProcesses}
 use Rattle.vt_kernel.proofs.OwnSteps.{own-execute, not-own, own-step, found, refused-at}
 use Rattle.vt_kernel.proofs.LocalLemmas.{past-refused, execute-step}

@@ -1,9 +1,7 @@
--- The process that a call changes: it is there, and enters the contest again.
-use Rattle.std.proofs.Common.{◌≡◌, ◌∙◌, ℕ, ◌+◌, ◌*◌, ◌/◌, ◌%◌, ◌<◌, true, nat_lt, List, length, sym, ap, subst, arith, Some, slice_get, slice_set, slice_index_or}
+-- The process that a call changes is there, and may accept its letters.
+use Rattle.std.proofs.Common.{◌≡◌, ◌∙◌, ℕ, ◌+◌, ◌*◌, ◌/◌, ◌%◌, ◌<◌, true, nat_lt, List, length, sym, ap, subst, arith, Some, slice_get, slice_index_or}
 use Rattle.std.proofs.Math.Nat.{div-add-mod'}
 use Rattle.std.proofs.lemmas.Bool.{ltb-true}
-use Rattle.std.proofs.lemmas.List.{length-set}
-use Rattle.std.proofs.lemmas.Option.{slice_get_within}
 use Rattle.std.specs.List.{find}
 use Rattle.vt_key.specs.promise.Times.{TimeBefore}
 use Rattle.vt_key.specs.declared.letter.Letter.{Letter}
@@ -13,39 +11,18 @@ use Rattle.vt_model.specs.promise.Settings.{end_of}
 use Rattle.vt_steps.specs.promise.Letters.{Counts}
 use Rattle.vt_steps.specs.promise.PartSteps.{is_for}
 use Rattle.vt_lp.specs.inside.Held.{HeldProcess}
-use Rattle.vt_contest.specs.declared.contest.Contest.{Contest}
-use Rattle.vt_contest.specs.inside.Contest.{WasContestOf}
-use Rattle.vt_contest.proofs.Written.{get-all}
-use Rattle.vt_contest.proofs.ContestLemmas.{contest-before}
+use Rattle.vt_kernel.proofs.Written.{get-all}
 use Rattle.vt_outbox.specs.inside.Outbox.{HeldOutbox}
 use Rattle.vt_kernel.specs.inside.Held.{IsWorkerInside, IsOwnMail}
 use Rattle.vt_kernel.proofs.ProcessLemmas.{process-at}
 use Rattle.vt_kernel.proofs.LocalLemmas.{IsOwnPlace, index-get, place-within}
 use Rattle.vt_kernel.proofs.DeliveryLemmas.{found-in}
 
--- where one was changed it is still
-pub still-there : {X : Type 0} (xs : List X) {now : List X} {place : ℕ} {q : X} (new : X) → slice_get xs place ≡ Some q → now ≡ slice_set xs place new → place < length now
-still-there xs {place = place} {q = q} new at is =
-    let less = slice_get_within xs place q at in
-    let size = ap length is ∙ length-set xs place new in
-    omega (arith, less, size)
-
-module _ {S P K : Type 0} {config : Config} {w : ℕ} {processes : List (HeldProcess S P K)} {outbox : HeldOutbox P} {arrived : List (Mail P)} {sent got : Counts} {serial : ℕ} {contest : Contest}
-    (h : IsWorkerInside config w processes outbox arrived sent got serial contest) where
+module _ {S P K : Type 0} {config : Config} {w : ℕ} {processes : List (HeldProcess S P K)} {outbox : HeldOutbox P} {arrived : List (Mail P)} {sent got : Counts} {serial : ℕ}
+    (h : IsWorkerInside config w processes outbox arrived sent got serial) where
   -- the process that an index finds
   pub process-there : {p place : ℕ} {old : HeldProcess S P K} → IsOwnPlace config w p place → slice_index_or processes place old ≡ old → slice_get processes place ≡ Some old
   process-there {p} {place} {old} own found = index-get processes place old (place-within h own) found
-
-  -- once it has changed, the contest was that of the other processes, and of it before
-  pub was-in-contest : {place : ℕ} {old : HeldProcess S P K} (new : HeldProcess S P K) {now : List (HeldProcess S P K)} → slice_get processes place ≡ Some old → now ≡ slice_set processes place new → WasContestOf place now contest
-  was-in-contest {place} {old} new {now} at is = record { process = old; was = contest-before processes now place old new contest at is h.in_contest }
-
-  -- so once it has changed it may enter the contest again
-  pub may-enter : {p place : ℕ} {old : HeldProcess S P K} (new : HeldProcess S P K) {now : List (HeldProcess S P K)} → IsOwnPlace config w p place → slice_index_or processes place old ≡ old → now ≡ slice_set processes place new
-      → (place < length now) × WasContestOf place now contest
-  may-enter new own found is =
-      let at = process-there own found in
-      (still-there processes new at is, was-in-contest new at is)
 
   -- a letter for one of the worker's processes, before the end of the run, and the place of that process
   pub record IsOwnLetter (letter : Letter P) (place : ℕ) : Type 0 where

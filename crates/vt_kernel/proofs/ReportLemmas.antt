@@ -3,6 +3,7 @@ use Rattle.std.proofs.Common.{◌≡◌, ℕ, ◌+◌, List, [], ◌∷◌, ◌+
 use Rattle.std.specs.List.{flat_map}
 use Rattle.vt_key.specs.promise.Letters.{other_colour}
 use Rattle.vt_key.specs.promise.Times.{earlier}
+use Rattle.vt_key.specs.declared.letter.Letter.{Letter}
 use Rattle.vt_key.specs.declared.letter.Mail.{Mail}
 use Rattle.vt_model.specs.promise.Handler.{Handlers}
 use Rattle.vt_model.specs.promise.Simulation.{Simulation, simulation_of}
@@ -12,9 +13,12 @@ use Rattle.vt_steps.specs.promise.World.{LogicalProcess, Part, letters_in}
 use Rattle.vt_steps.specs.promise.PartSteps.{report_sent, report_got, report_least}
 use Rattle.vt_steps.specs.inside.StandsFor.{StandForProcesses}
 use Rattle.vt_lp.specs.inside.Held.{HeldProcess, process_memory}
-use Rattle.vt_contest.proofs.LeastLemmas.{kept_letters}
 use Rattle.vt_kernel.specs.inside.Held.{HeldWorker, StandsFor}
 use Rattle.vt_kernel.specs.inside.Guards.{held_letters}
+
+-- what a process has
+abbrev pub kept_letters : {S P K : Type 0} → HeldProcess S P K → List (Letter P)
+kept_letters held = held.pending ++ held.waiting
 
 module _ {S P K : Type 0} (handlers : Handlers S P K) where
   -- what the processes of a part have is what is kept of them

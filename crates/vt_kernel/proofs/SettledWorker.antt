@@ -9,9 +9,7 @@ use Rattle.vt_steps.specs.promise.ProcessSteps.{undo_process, cancel_process}
 use Rattle.vt_steps.specs.promise.PartSteps.{with_effect}
 use Rattle.vt_steps.proofs.lists.Places.{get-put_same}
 use Rattle.vt_lp.specs.inside.Held.{HeldProcess, StandsFor as ProcessStandsFor}
-use Rattle.vt_lp.specs.inside.Guards.{HasNothingToSettle}
 use Rattle.vt_kernel.specs.inside.Held.{HeldWorker, StandsFor, AreProcesses}
-use Rattle.vt_kernel.specs.inside.Local.{IsSettled}
 use Rattle.vt_kernel.specs.inside.Guards.{SettlesTo}
 use Rattle.vt_kernel.specs.inside.Settled.{LedTo, IsSettledTo}
 use Rattle.vt_kernel.proofs.ProcessLemmas.{stands-after}
@@ -34,14 +32,6 @@ module _ {S P K : Type 0} (handlers : Handlers S P K) (held : HeldWorker S P K) 
       no_cancel = λ stamp. unknown-refused handlers held are part h p (cancel_process stamp) some all past;
     };
   }
-
-  -- where a process has nothing to settle, its worker has nothing to settle there
-  pub nothing-at : {p place : ℕ} {q : HeldProcess S P K} → IsOwnPlace held.config held.worker p place → slice_get held.processes place ≡ Some q
-      → ((process : LogicalProcess P) → ProcessStandsFor handlers q process → HasNothingToSettle process) → IsSettled (simulation_of handlers held.config) held.worker p part
-  nothing-at {p} own at nothing =
-      let f = found-at handlers held are part h own at in
-      let none = nothing f.process f.stands in
-      settled-at (simulation_of handlers held.config) held.worker p part f.process own.1 f.there none.no_undo none.no_cancel
 
   -- what settles the process that was found
   pub found-settled : (p count : ℕ) (q new : HeldProcess S P K) (outbox : List (Letter P)) → p % held.config.workers ≡ held.worker

@@ -17,7 +17,7 @@ use Rattle.vt_steps.specs.promise.ProcessSteps.{ProcessEffect, undo_process, can
 use Rattle.vt_steps.specs.promise.PartSteps.{with_effect}
 use Rattle.vt_steps.specs.inside.Cells.{local_step, local_steps}
 use Rattle.vt_steps.proofs.lists.Places.{get-put_same}
-pub use Rattle.vt_contest.proofs.Written.{put-there}
+use Rattle.vt_kernel.proofs.Written.{put-there}
 use Rattle.vt_kernel.specs.inside.Local.{AreSettling, IsSettled, is_undo, count_undos}
 use Rattle.vt_lp.specs.inside.Held.{HeldProcess, StandsFor as ProcessStandsFor}
 use Rattle.vt_lp.specs.inside.Guards.{IsDone as ProcessIsDone}

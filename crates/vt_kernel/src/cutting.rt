@@ -1,6 +1,6 @@
 //! The worker's part of a cut, and what it reports.
 
-ghost use Rattle.std.specs.Prelude.{◌≡◌, map};
+ghost use Rattle.std.specs.Prelude.{◌≡◌, ◌++◌, All, flat_map, map};
 ghost use Rattle.vt_key.specs.promise.Letters.{other_colour};
 ghost use Rattle.vt_key.specs.promise.Times.{earlier};
 ghost use Rattle.vt_model.specs.promise.Handler.{Handlers};
@@ -13,6 +13,7 @@ ghost use Rattle.vt_kernel.specs.inside.Guards.{held_letters};
 
 use crate::kernel::Kernel;
 use vt_key::{Mail, When};
+use vt_lp::Lp;
 use vt_model::Model as EventModel;
 
 impl<M: EventModel> Kernel<M> {
@@ -56,9 +57,22 @@ impl<M: EventModel> Kernel<M> {
         let end = self.config.end();
         let unsent = self.outbox.least(end);
         let arrived = least_of_mail(&self.arrived, end);
-        let kept = self.contest.least(&self.processes, end);
+        let kept = least_of_processes(&self.processes, end);
         unsent.earlier(arrived).earlier(kept)
     }
+}
+
+/// The least time of all pending messages and waiting anti-messages of these processes; `end`, the end of the run, if there are
+/// none.
+fn least_of_processes<M: EventModel>(processes: &[Lp<M>], end: When) -> When
+    requires ends { All (λ held. end_of held.config ≡ end) processes.now }
+    ensures { result ≡ least_time end (flat_map (λ held. held.pending ++ held.waiting) processes.now) }
+{
+    let mut least = end;
+    for process in processes {
+        least = least.earlier(process.least());
+    }
+    least
 }
 
 /// The least time of this mail; the end of the run if there is none.

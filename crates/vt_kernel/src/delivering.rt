@@ -1,6 +1,6 @@
 //! How letters reach a process of the worker: out of its own outbox, or out of the mail that has arrived.
 
-ghost use Rattle.std.specs.Prelude.{◌≡◌, ◌<◌, ◌⊎◌, IfErr, true, false};
+ghost use Rattle.std.specs.Prelude.{◌≡◌, ◌⊎◌, IfErr, true, false};
 ghost use Rattle.vt_key.specs.declared.fault.Fault.TheVariants.{NotLawful, Memory};
 ghost use Rattle.vt_model.specs.promise.Handler.{Handlers};
 ghost use Rattle.vt_steps.specs.declared.step.Step.TheVariants as step;
@@ -11,6 +11,7 @@ use crate::kernel::Kernel;
 use std::alloc::Global;
 use std::snapshot::Snapshot;
 use vt_key::{Fault, Letter};
+use vt_list::Parcel;
 use vt_lp::Lp;
 use vt_model::Model as EventModel;
 
@@ -29,13 +30,10 @@ impl<M: EventModel> Kernel<M> {
             return Err(Fault::NotLawful);
         };
         let place = self.config.index(letter.get().event.dest) as usize;
-        let process = &mut self.processes[place];
-        let leads = process.would_lead(letter.get());
-        if let Err((fault, letter)) = process.accept(letter) {
+        if let Err((fault, letter)) = self.processes[place].accept(letter) {
             self.outbox.put_back(self.worker, letter, &before);
             return Err(fault);
         }
-        self.contest.enter_accepted(&self.processes, place, leads);
         Ok(())
     }
 
@@ -57,17 +55,13 @@ impl<M: EventModel> Kernel<M> {
         };
         let letter = mail.letter;
         let place = self.config.index(letter.event.dest) as usize;
-        let Ok(parcel) = self.spare.letter(alloc, letter) else {
+        let Ok(parcel) = Parcel::new(alloc, letter) else {
             return Err(unmade(&self.processes[place], letter));
         };
-        let process = &mut self.processes[place];
-        let leads = process.would_lead(&letter);
-        if let Err((fault, parcel)) = process.accept(parcel) {
-            self.spare.keep_letter(parcel);
+        if let Err((fault, _)) = self.processes[place].accept(parcel) {
             return Err(fault);
         }
         self.arrived.remove(i);
-        self.contest.enter_accepted(&self.processes, place, leads);
         Ok(())
     }
 }

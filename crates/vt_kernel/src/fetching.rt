@@ -1,6 +1,6 @@
 //! Mail that arrives.
 
-ghost use Rattle.std.specs.Prelude.{◌≡◌, ◌<◌, [], true, IfOk, IfErr};
+ghost use Rattle.std.specs.Prelude.{◌≡◌, [], true, IfOk, IfErr};
 ghost use Rattle.vt_key.specs.declared.fault.Fault.TheVariants.{NotLawful, Exhausted};
 ghost use Rattle.vt_model.specs.promise.Handler.{Handlers};
 ghost use Rattle.vt_steps.specs.promise.Letters.{is_empty};
@@ -33,7 +33,7 @@ impl<M: EventModel> Kernel<M> {
         ensures kept { IfErr result (λ e. (self.new ≡ self.old) × (e.1.items ≡ mail.items)) }
     {
         let mut mail = mail;
-        match self.exchange_mail(&mut mail) {
+        match self.fetch(&mut mail) {
             Ok(()) => Ok(()),
             Err(fault) => Err((fault, mail)),
         }
@@ -43,7 +43,7 @@ impl<M: EventModel> Kernel<M> {
     /// room.
     ///
     /// [`Fault`]: as of [`Kernel::take_in`]; the mail stays in the inbox.
-    pub fn exchange_mail(&mut self, mail: &mut Vec<Mail<M::Payload>>) -> Result<(), Fault>
+    pub fn fetch(&mut self, mail: &mut Vec<Mail<M::Payload>>) -> Result<(), Fault>
         requires own { AllOwnMail self.old.config self.old.worker mail.old.items }
         ensures taken { IfOk result (λ _. self.new ≡ held_after_fetch mail.old.items self.old) }
         ensures emptied { IfOk result (λ _. mail.new.items ≡ []) }

@@ -6,9 +6,8 @@ ghost use Rattle.vt_kernel.specs.inside.Held.{AreCounted};
 
 use crate::counts::Counts;
 use std::marker::Model;
-use vt_contest::Contest;
 use vt_key::{Colour, Mail, When};
-use vt_lp::{Lp, Spare};
+use vt_lp::Lp;
 use vt_model::{Config, Model as EventModel};
 use vt_outbox::Outbox;
 
@@ -30,10 +29,6 @@ pub struct Kernel<M: EventModel> {
     pub(crate) red_minimum: When,
     pub(crate) floor: When,
     pub(crate) serial: u64,
-    // Which of the processes is next.
-    pub(crate) contest: Contest,
-    // The memory of committed events and of annihilated letters, for the next ones.
-    pub(crate) spare: Spare<M::Payload, M::Kept>,
 }
 
 impl<M: EventModel> Model for Kernel<M> {
@@ -55,7 +50,7 @@ impl<M: EventModel> Model for Kernel<M> {
       serial = k.serial;
     } };
 
-    ghost invariant = { λ k. IsWorkerInside k.config k.worker k.processes.items k.outbox k.arrived.items k.sent k.got k.serial k.contest };
+    ghost invariant = { λ k. IsWorkerInside k.config k.worker k.processes.items k.outbox k.arrived.items k.sent k.got k.serial };
 }
 
 impl<M: EventModel> Kernel<M> {

@@ -18,7 +18,6 @@ mod making;
 mod readers;
 mod sending;
 mod settling;
-mod steering;
 
 pub use counts::Counts;
 pub use cutting::least_of_mail;

@@ -13,9 +13,9 @@ ghost use Rattle.vt_kernel.specs.promise.Refusals.{PassesIn};
 
 use crate::kernel::Kernel;
 use std::alloc::Global;
-use vt_key::{Fault, Stamp, When};
+use vt_key::{Fault, Stamp};
 use vt_list::List;
-use vt_model::{Config, Model as EventModel, Out};
+use vt_model::{Config, Model as EventModel};
 
 impl<M: EventModel> Kernel<M> {
     /// Execute at process `lp`: it executes its least pending event, and what that sends goes to the back of the
@@ -39,44 +39,12 @@ impl<M: EventModel> Kernel<M> {
         ensures others { (p : ℕ) → (p ≡ lp → ⊥) → process_of self.new p ≡ process_of self.old p }
         ensures same { (self.new.worker ≡ self.old.worker) × (self.new.config ≡ self.old.config) }
     {
-        let mut out = Out::new(self.config, 0, When::tick(0), 0);
-        self.execute_reusing(alloc, model, lp, &mut out)
-    }
-
-    /// As [`Kernel::execute`], but uses for the handler an `out` that the caller lends, so that many events have one. Any `out`
-    /// serves, as `Out::new(config, 0, When::tick(0), 0)`. What is in it afterwards isn't said.
-    pub fn execute_reusing(
-        &mut self,
-        alloc: Global,
-        model: &M,
-        lp: u32,
-        out: &mut Out<M::Payload>,
-    ) -> Result<(), Fault>
-        ensures done { DoesStep (M.handlers model.now) self.old self.new (step.Execute lp) result }
-        ensures counted { (part : Part _) → StandsFor (M.handlers model.now) self.new part → IfOk result (λ done. PassesIn (simulation_of (M.handlers model.now) self.old.config) (step.Execute lp) part 0 → ⊥) }
-        ensures refused { RefusesExecute (M.handlers model.now) self.old lp result }
-        ensures faults { IfErr result (λ fault. (fault ≡ NotLawful) ⊎ ((fault ≡ Exhausted) ⊎ (fault ≡ Memory))) }
-        ensures unchanged { (part : Part _) → StandsFor (M.handlers model.now) self.old part → IfErr result (λ fault. self.new ≡ self.old) }
-        ensures restored { IfSome (process_of self.old lp) (λ process. M.IsState model.now process.triple.state) → IfErr result (λ fault. self.new ≡ self.old) }
-        ensures not_lawful { IfErr result (λ fault. fault ≡ NotLawful → self.new ≡ self.old) }
-        ensures but_processes { IfErr result (λ fault. self.new ≡ record self.old { processes = self.new.processes }) }
-        ensures others { (p : ℕ) → (p ≡ lp → ⊥) → process_of self.new p ≡ process_of self.old p }
-        ensures same { (self.new.worker ≡ self.old.worker) × (self.new.config ≡ self.old.config) }
-    {
         let Some(place) = place_of(self.config, self.worker, lp) else {
             return Err(Fault::NotLawful);
         };
         let mut sent = List::new(alloc);
-        let result = self.processes[place].execute_reusing(
-            alloc,
-            model,
-            &mut self.serial,
-            &mut sent,
-            &mut self.spare,
-            out,
-        );
+        let result = self.processes[place].execute(alloc, model, &mut self.serial, &mut sent);
         self.outbox.put(sent);
-        self.contest.enter(&self.processes, place);
         result
     }
 
@@ -98,9 +66,8 @@ impl<M: EventModel> Kernel<M> {
             return Err(Fault::NotLawful);
         };
         let mut sent = List::new(*self.arrived.allocator());
-        let result = self.processes[place].undo_into(model, &mut sent, &mut self.spare);
+        let result = self.processes[place].undo(model, &mut sent);
         self.outbox.put(sent);
-        self.contest.enter(&self.processes, place);
         result
     }
 
@@ -121,11 +88,7 @@ impl<M: EventModel> Kernel<M> {
         let Some(place) = place_of(self.config, self.worker, lp) else {
             return Err(Fault::NotLawful);
         };
-        if let Err(fault) = self.processes[place].cancel_into(stamp, &mut self.spare) {
-            return Err(fault);
-        }
-        self.contest.enter(&self.processes, place);
-        Ok(())
+        self.processes[place].cancel(stamp)
     }
 }
 

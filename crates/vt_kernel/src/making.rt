@@ -14,10 +14,9 @@ ghost use Rattle.vt_kernel.specs.inside.Held.{StandsFor, AreProcesses};
 use crate::counts::Counts;
 use crate::kernel::Kernel;
 use std::alloc::Global;
-use vt_contest::Contest;
 use vt_key::{Colour, Fault, Letter, MAX_COUNT, MAX_PROCESSES, MAX_WORKERS, When};
 use vt_list::List;
-use vt_lp::{Lp, Spare};
+use vt_lp::Lp;
 use vt_model::{Config, MAX_SENDS, Model as EventModel, Out, Process};
 use vt_outbox::Outbox;
 
@@ -80,7 +79,6 @@ fn open<M: EventModel>(
     let mut sent = List::new(alloc);
     let processes = start_all(alloc, model, config, w, &mut serial, &mut sent)?;
     outbox.put(sent);
-    let contest = Contest::new(alloc, &processes)?;
     Ok(Kernel {
         config,
         worker: w,
@@ -93,8 +91,6 @@ fn open<M: EventModel>(
         red_minimum: config.end(),
         floor: When::tick(0),
         serial,
-        contest,
-        spare: Spare::new(alloc),
     })
 }
 

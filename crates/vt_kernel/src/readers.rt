@@ -1,19 +1,15 @@
 //! Readers of a worker's processes.
 
-ghost use Rattle.std.specs.Prelude.{◌≡◌, ◌⊎◌, ◌%◌, ◌^◌, false, length, Some, IsFalse, IfSome, IfNone, IfOk, IfErr, OnOk};
-ghost use Rattle.std.specs.Option.{option_copied, option_map, option_map_or};
+ghost use Rattle.std.specs.Prelude.{◌≡◌, ◌⊎◌, ◌%◌, ◌^◌, length, Some, IfSome, IfNone, IfOk, IfErr, OnOk};
+ghost use Rattle.std.specs.Option.{option_copied, option_map};
 ghost use Rattle.vt_key.specs.declared.fault.Fault.TheVariants.{Memory, NotLawful};
-ghost use Rattle.vt_model.specs.promise.Handler.{Handlers};
 ghost use Rattle.vt_model.specs.promise.Simulation.{simulation_of};
 ghost use Rattle.vt_steps.specs.promise.World.{Part};
 ghost use Rattle.vt_steps.specs.inside.Finals.{part_values};
 ghost use Rattle.vt_kernel.specs.inside.Held.{StandsFor, held_values, process_of, IsProcessOf};
-ghost use Rattle.vt_kernel.specs.inside.Local.{IsSettled};
 ghost use Rattle.vt_lp.specs.inside.Held.{executed_events};
-ghost use Rattle.vt_lp.specs.inside.Guards.{is_unsettled};
 
 use crate::kernel::Kernel;
-use crate::local::place_of;
 use std::alloc::Global;
 use vt_key::{Event, Fault};
 use vt_lp::Lp;
@@ -30,18 +26,6 @@ impl<M: EventModel> Kernel<M> {
             return None;
         }
         self.processes.get(self.config.index(p) as usize)
-    }
-
-    /// Whether an anti-message waits at process `p`, or Execute isn't lawful there. False if the process isn't one of this worker's.
-    /// If it is false, Undo and Cancel aren't lawful there.
-    pub fn is_unsettled(&self, p: u32) -> bool
-        ensures value { result ≡ option_map_or is_unsettled (process_of self.now p) false }
-        ensures settled { IsFalse result → (handlers : Handlers _ _ _) (part : Part _) → StandsFor handlers self.now part → IsSettled (simulation_of handlers self.now.config) self.now.worker p part }
-    {
-        let Some(place) = place_of(self.config, self.worker, p) else {
-            return false;
-        };
-        self.processes[place].is_unsettled()
     }
 
     /// The state of process `p`; None if it isn't one of this worker's.

@@ -2,7 +2,6 @@
 
 ghost use Rattle.std.specs.Prelude.{◌≡◌, ℕ, ◌+◌, ◌<◌, ◌≤◌, ◌⊎◌, ◌++◌, true, false, length, map, filter, vec_len, IfOk, IfErr, IfSome, IfNone};
 ghost use Rattle.std.specs.Vec.{vec_capacity};
-ghost use Rattle.vt_key.specs.promise.Times.{earlier};
 ghost use Rattle.vt_key.specs.declared.fault.Fault.TheVariants.{Memory, NotLawful, Exhausted};
 ghost use Rattle.vt_model.specs.promise.Handler.{Handlers};
 ghost use Rattle.vt_model.specs.promise.Simulation.{simulation_of};
@@ -20,7 +19,6 @@ ghost use Rattle.vt_kernel.specs.promise.Refusals.{PassesIn};
 use crate::kernel::Kernel;
 use vt_key::{Colour, Fault, Letter, Mail, When};
 use vt_list::List;
-use vt_lp::Spare;
 use vt_model::{Config, Model as EventModel};
 use vt_outbox::Outbox;
 
@@ -49,7 +47,6 @@ impl<M: EventModel> Kernel<M> {
         let count = make_room(&self.outbox, v, room, mail)?;
         let letters = self.outbox.take_for(v, *mail.allocator());
         let least = mail_letters(&letters, self.config, self.colour, mail);
-        keep_nodes(letters, &mut self.spare);
         self.sent.raise(self.colour, count);
         self.red_minimum = self.red_minimum.earlier(least);
         Ok(())
@@ -113,12 +110,4 @@ pub fn mail_letters<P: Copy>(
         });
     }
     least
-}
-
-/// Keeps the nodes of letters for other ones.
-fn keep_nodes<P: Copy, K: Copy>(letters: List<Letter<P>>, spare: &mut Spare<P, K>) {
-    let mut letters = letters;
-    while let Some(parcel) = letters.pop_front() {
-        spare.keep_letter(parcel);
-    }
 }

@@ -1,6 +1,6 @@
 //! Undo and Cancel at one process, as long as one of them is lawful.
 
-ghost use Rattle.std.specs.Prelude.{◌≡◌, IsFalse};
+ghost use Rattle.std.specs.Prelude.{◌≡◌};
 ghost use Rattle.vt_model.specs.promise.Simulation.{simulation_of};
 ghost use Rattle.vt_steps.specs.promise.World.{LogicalProcess, Part};
 ghost use Rattle.vt_lp.specs.inside.Held.{StandsFor as ProcessStandsFor, AllWithinRun};
@@ -12,7 +12,7 @@ use crate::kernel::Kernel;
 use crate::local::place_of;
 use vt_key::Letter;
 use vt_list::List;
-use vt_lp::{Lp, Spare};
+use vt_lp::Lp;
 use vt_model::Model as EventModel;
 
 impl<M: EventModel> Kernel<M> {
@@ -27,53 +27,32 @@ impl<M: EventModel> Kernel<M> {
             return 0;
         };
         let mut sent = List::new(*self.arrived.allocator());
-        let settling = settle_process(
-            &mut self.processes[place],
-            model,
-            &mut sent,
-            &mut self.spare,
-        );
+        let undone = settle_process(&mut self.processes[place], model, &mut sent);
         self.outbox.put(sent);
-        if settling.changed {
-            self.contest.enter(&self.processes, place);
-        }
-        settling.undone
+        undone
     }
 }
 
-/// What was done at a process to settle it.
-#[derive(Clone, Copy)]
-struct Settling {
-    /// Whether anything was undone or cancelled.
-    changed: bool,
-    /// How many events were undone, modulo 2^64.
-    undone: u64,
-}
-
-/// Undoes and cancels at one process until neither is lawful. Anti-messages go to the back of the outbox.
+/// Undoes and cancels at one process until neither is lawful, and returns how many events were undone, modulo 2^64. Anti-messages
+/// go to the back of the outbox.
 fn settle_process<M: EventModel>(
     process: &mut Lp<M>,
     model: &M,
     outbox: &mut List<Letter<M::Payload>>,
-    spare: &mut Spare<M::Payload, M::Kept>,
-) -> Settling
-    ensures settled { (h : LogicalProcess _) → ProcessStandsFor (M.handlers model.now) process.old h → IsSettledTo (M.handlers model.now) h process.new outbox.old outbox.new result.undone }
+) -> u64
+    ensures settled { (h : LogicalProcess _) → ProcessStandsFor (M.handlers model.now) process.old h → IsSettledTo (M.handlers model.now) h process.new outbox.old outbox.new result }
     ensures within { AllWithinRun process.old.config outbox.old → AllWithinRun process.old.config outbox.new }
     ensures same { (process.new.lp ≡ process.old.lp) × (process.new.config ≡ process.old.config) }
-    ensures unchanged { IsFalse result.changed → (process.new ≡ process.old) × (outbox.new ≡ outbox.old) }
 {
-    let mut changed = false;
     let mut undone = 0_u64;
     loop {
-        if process.undo_into(model, outbox, spare).is_ok() {
-            changed = true;
+        if process.undo(model, outbox).is_ok() {
             undone = undone.wrapping_add(1);
             continue;
         }
         let Some(stamp) = process.cancellable() else {
-            return Settling { changed, undone };
+            return undone;
         };
-        let _ = process.cancel_into(stamp, spare);
-        changed = true;
+        let _ = process.cancel(stamp);
     }
 }

@@ -1,12 +1,11 @@
 -- A letter that comes: what the process keeps to, and the step of each process that it stands for.
-use Rattle.std.proofs.Common.{◌≡◌, ◌||◌, inl, inr, Bool, true, false, not, if◌then◌else◌, ℕ, List, [], ◌∷◌, Some, None, Result, Ok, Err, IfOk, IfErr, map, slice_get, refl, sym, subst, ◌∙◌, ap, arith}
+use Rattle.std.proofs.Common.{◌≡◌, ◌||◌, inl, inr, Bool, true, false, if◌then◌else◌, ℕ, List, [], ◌∷◌, Some, None, Result, Ok, Err, IfOk, IfErr, map, refl, sym, subst, ◌∙◌, ap}
 use Rattle.std.specs.Prelude.{All}
 use Rattle.std.specs.List.{list_any}
 use Rattle.std.proofs.lemmas.List.Elements.{All-from_recursion, recursion_from_All, All-nil, All-cons, All-head, All-tail}
 use Rattle.std.proofs.lemmas.Bool.{cases_Bool}
 use Rattle.vt_key.proofs.RisingLemmas.{first-false, second-false}
 use Rattle.vt_key.specs.promise.Order.{rank_before, rank_same}
-use Rattle.vt_key.specs.promise.Times.{Time, earlier}
 use Rattle.vt_key.specs.promise.Queues.{has_rank, insert_letter, letter_rank}
 use Rattle.vt_key.specs.inside.Queues.{holds_rank}
 use Rattle.vt_key.specs.declared.order.Rank.{Rank}
@@ -19,15 +18,12 @@ use Rattle.vt_stream.specs.inside.Words.{Stream}
 use Rattle.vt_model.specs.declared.settings.Config.{Config}
 use Rattle.vt_model.specs.promise.Handler.{Handlers}
 use Rattle.vt_model.specs.promise.Settings.{end_of}
-use Rattle.vt_steps.specs.promise.Letters.{letter_time, least_time}
-use Rattle.vt_steps.proofs.letters.RankTimes.{not-after-time}
 use Rattle.vt_steps.specs.promise.World.{LogicalProcess, entry_rank}
 use Rattle.vt_steps.specs.inside.StandsFor.{entry_of}
 use Rattle.vt_steps.specs.promise.ProcessSteps.{ProcessEffect, holds, with_letter, accept_process}
 use Rattle.vt_past.specs.declared.event.PastEvent.{PastEvent}
 use Rattle.vt_lp.specs.inside.Held.{HeldProcess, StandsFor, remembered, IsOwnLetter, IsNotPending, IsProcessInside}
-use Rattle.vt_lp.specs.inside.Guards.{IsDone, holds_letter, is_first, would_lead, ready_rank, lesser_rank, TellsSame}
-use Rattle.vt_lp.proofs.RisingLemmas.{least_time-both}
+use Rattle.vt_lp.specs.inside.Guards.{IsDone, holds_letter}
 
 -- ---- what a queue answers
 
@@ -166,61 +162,3 @@ module _ {S P K : Type 0} (handlers : Handlers S P K) where
     letters = refl;
     serials = refl;
   }
-
--- ---- a letter that isn't the first of its queue
-
-module _ {P : Type 0} where
-  -- the letter goes behind the first one
-  behind-first : (x l : Letter P) (ls : List (Letter P)) → is_first x (l ∷ ls) ≡ false → insert_letter x (l ∷ ls) ≡ l ∷ insert_letter x ls
-  behind-first x l ls behind = ap (λ (b : Bool). if b then x ∷ l ∷ ls else l ∷ insert_letter x ls) behind
-
-  first-same : (x : Letter P) (ls : List (Letter P)) → is_first x ls ≡ false → slice_get (insert_letter x ls) 0 ≡ slice_get ls 0
-  first-same x [] behind = absurd (let e : true ≡ false = behind in cc)
-  first-same x (l ∷ ls) behind = ap (λ (xs : List (Letter P)). slice_get xs 0) (behind-first x l ls behind)
-
-  ready-same : {K : Type 0} (x : Letter P) (ls : List (Letter P)) (past : List (PastEvent P K)) → is_first x ls ≡ false → ready_rank (insert_letter x ls) past ≡ ready_rank ls past
-  ready-same x [] past behind = absurd (let e : true ≡ false = behind in cc)
-  ready-same x (l ∷ ls) past behind = ap (λ (xs : List (Letter P)). ready_rank xs past) (behind-first x l ls behind)
-
-  -- a letter more may lower the least time
-  time-insert : (end : Time) (x : Letter P) (ls : List (Letter P)) → least_time end (insert_letter x ls) ≡ earlier (letter_time x) (least_time end ls)
-  time-insert end x [] = refl
-  time-insert end x (l ∷ ls) = elim (rank_before (letter_rank x) (letter_rank l)) as (λ b. least_time end (if b then x ∷ l ∷ ls else l ∷ insert_letter x ls) ≡ earlier (letter_time x) (least_time end (l ∷ ls))) [
-    | true ↦ refl
-    | false ↦ (let rest = time-insert end x ls in omega arith)
-  ]
-
-  -- but not one behind the first
-  time-same : (end : Time) (x : Letter P) (ls : List (Letter P)) → is_first x ls ≡ false → least_time end (insert_letter x ls) ≡ least_time end ls
-  time-same end x [] behind = absurd (let e : true ≡ false = behind in cc)
-  time-same end x (l ∷ ls) behind =
-      let more = time-insert end x (l ∷ ls) in
-      let order = not-after-time x.event.rank l.event.rank (ap not behind) in
-      omega arith
-
-module _ {S P K : Type 0} (held : HeldProcess S P K) (x : Letter P) (new : List (Letter P)) where
-  -- a message behind the first one
-  pub message-behind : x.sign ≡ Plus → new ≡ insert_letter x held.pending → would_lead held.pending held.waiting x.sign x ≡ false → TellsSame held (record held { pending = new })
-  message-behind sign is behind =
-      let later : is_first x held.pending ≡ false = ap (λ (g : Sign). would_lead held.pending held.waiting g x) (sym sign) ∙ behind in
-      subst (λ (ls : List (Letter P)). TellsSame held (record held { pending = ls })) (sym is) (record {
-        ready = ready-same x held.pending held.past later;
-        rank = ap (λ o. lesser_rank o (slice_get held.waiting 0)) (first-same x held.pending later);
-        time = λ end.
-            least_time-both end (insert_letter x held.pending) held.waiting
-            ∙ ap (λ t. earlier t (least_time end held.waiting)) (time-same end x held.pending later)
-            ∙ sym (least_time-both end held.pending held.waiting);
-      })
-
-  -- an anti-message behind the first one
-  pub anti_message-behind : x.sign ≡ Minus → new ≡ insert_letter x held.waiting → would_lead held.pending held.waiting x.sign x ≡ false → TellsSame held (record held { waiting = new })
-  anti_message-behind sign is behind =
-      let later : is_first x held.waiting ≡ false = ap (λ (g : Sign). would_lead held.pending held.waiting g x) (sym sign) ∙ behind in
-      subst (λ (ls : List (Letter P)). TellsSame held (record held { waiting = ls })) (sym is) (record {
-        ready = refl;
-        rank = ap (λ o. lesser_rank (slice_get held.pending 0) o) (first-same x held.waiting later);
-        time = λ end.
-            least_time-both end held.pending (insert_letter x held.waiting)
-            ∙ ap (λ t. earlier (least_time end held.pending) t) (time-same end x held.waiting later)
-            ∙ sym (least_time-both end held.pending held.waiting);
-      })

@@ -1,5 +1,5 @@
 -- Two letters that annihilate each other: what the process keeps to, and the step of each process that it stands for.
-use Rattle.std.proofs.Common.{◌≡◌, ◌||◌, ◌+◌, inl, inr, Bool, true, false, if◌then◌else◌, ℕ, suc, arith, List, [], ◌∷◌, Option, Some, None, length, refl, sym, subst, ◌∙◌, ap}
+use Rattle.std.proofs.Common.{◌≡◌, ◌||◌, inl, inr, Bool, true, false, if◌then◌else◌, ℕ, suc, List, [], ◌∷◌, Option, Some, None, length, refl, sym, subst, ◌∙◌, ap}
 use Rattle.std.specs.Prelude.{All, IfNone, find}
 use Rattle.std.proofs.lemmas.List.Elements.{All-from_recursion, recursion_from_All, All-nil, All-cons, All-head, All-tail}
 use Rattle.vt_key.proofs.RisingLemmas.{first-false, second-false}
@@ -22,7 +22,6 @@ use Rattle.vt_pending.specs.inside.Letters.{without_stamp}
 use Rattle.vt_past.specs.declared.event.PastEvent.{PastEvent}
 use Rattle.vt_lp.specs.inside.Held.{HeldProcess, StandsFor, IsOwnLetter, IsNotPending, IsProcessInside}
 use Rattle.vt_lp.specs.inside.Guards.{IsDone}
-use Rattle.vt_past.specs.inside.Kept.{KeptNodes, one_if_some}
 
 module _ {P : Type 0} where
   -- ---- what the process keeps to
@@ -68,15 +67,6 @@ module _ {P : Type 0} where
         ap (λ (ls : List (Letter P)). suc (length ls)) are ∙ fewer stamp waiting there.0.0 there.0.1,
       )
 
-  -- two letters are taken out
-  pub taken-both : (stamp : Stamp) (pending waiting : List (Letter P)) (message anti_message : Option (Letter P)) → message ≡ find (has_stamp stamp) pending →
-      anti_message ≡ find (has_stamp stamp) waiting → can_annihilate stamp pending waiting ≡ true → (one_if_some message ≡ 1) × (one_if_some anti_message ≡ 1)
-  taken-both stamp pending waiting message anti_message is are can =
-      let there = both-there (find (has_stamp stamp) waiting) (find (has_stamp stamp) pending) can in (
-        ap (λ (o : Option (Letter P)). one_if_some o) (is ∙ there.1.1),
-        ap (λ (o : Option (Letter P)). one_if_some o) (are ∙ there.0.1),
-      )
-
   -- what isn't found fails
   none-passes : (test : Letter P → Bool) (ls : List (Letter P)) (l : Letter P) → find test ls ≡ None → Among l ls → test l ≡ false
   none-passes test [] l none among = elim among [ ]
@@ -100,16 +90,6 @@ module _ {P : Type 0} where
         let fails = none-passes (λ (x : Letter P). can_annihilate x.event.rank.stamp pending waiting) waiting l none (find-among (has_stamp stamp) waiting l is) in
         let same = stamp_same-true l.event.rank.stamp stamp (find-passes (has_stamp stamp) waiting l is) in
         ap (λ (s : Stamp). can_annihilate s pending waiting) (sym same) ∙ fails
-
--- the nodes of two letters are kept
-pub two-more : (old one two : KeptNodes) (a b : ℕ) → one ≡ record old { letters = old.letters + a } → two ≡ record one { letters = one.letters + b } →
-    a ≡ 1 → b ≡ 1 → two ≡ record old { letters = old.letters + 2 }
-two-more old one two a b first second is are =
-    let letters : one.letters ≡ old.letters + a = ap (λ (k : KeptNodes). k.letters) first in
-    let events : one.events ≡ old.events = ap (λ (k : KeptNodes). k.events) first in
-    let held : one.held ≡ old.held = ap (λ (k : KeptNodes). k.held) first in
-    let both : one.letters + b ≡ old.letters + 2 = omega (arith, letters, is, are) in
-    second ∙ (λ j. record { letters = both j; events = events j; held = held j })
 
 -- a fact, also where something is there
 pub IfNone-of : {X : Type 0} (o : Option X) (Q : Type 0) → Q → IfNone o Q

@@ -36,7 +36,6 @@ use Rattle.vt_lp.specs.inside.Held.{HeldProcess, StandsFor, process_memory, reme
 use Rattle.vt_lp.specs.inside.Guards.{IsDone, IsExecuteRefusal, may_come_after}
 use Rattle.vt_past.specs.inside.Events.{past_event}
 use Rattle.vt_lp.specs.inside.Past.{ready_event, IsAdvanceRefusal}
-use Rattle.vt_lp.specs.inside.Used.{count_sends_by, count_sends}
 use Rattle.vt_lp.proofs.Ends.{none-after}
 use Rattle.vt_lp.proofs.Advancing.{events-signed}
 
@@ -102,13 +101,6 @@ module _ {S P K : Type 0} (handlers : Handlers S P K) where
       ap (λ xs. execute_least (simulation_of handlers held.config) held.lp w serial h xs) (s.pending ∙ is)
       ∙ ap (λ b. if b then Some (effect_of_execute (simulation_of handlers held.config) held.lp w serial h l ls) else None)
       (may-is held h l.event s ∙ ready-may l ls held.past e (ready ∙ ap (λ xs. ready_event xs held.past) is))
-
-  -- how many events Execute sends, by the event that is ready
-  pub sends-told : (held : HeldProcess S P K) (event : Event P) → event.dest ≡ held.lp → Some event ≡ ready_event held.pending held.past →
-      length ((simulation_of handlers held.config).fire event.dest held.triple (unstamped event)).sends ≡ count_sends (simulation_of handlers held.config) held
-  sends-told held event own ready =
-      (λ j. length ((simulation_of handlers held.config).fire (own j) held.triple (unstamped event)).sends)
-      ∙ ap (count_sends_by (simulation_of handlers held.config) held) ready
 
   -- a process that an event took on and back stands where it stood
   pub came-back : (config : Config) (p : ℕ) (before now : Triple S) (event : Event P) (undo_entry : UndoEntry P K) (records : List Record) →

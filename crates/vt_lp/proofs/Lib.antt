@@ -11,4 +11,3 @@ pub mod Ends
 pub mod Advancing
 pub mod ExecuteLemmas
 pub mod UndoLemmas
-mod SettledLemmas

@@ -1,5 +1,5 @@
 -- The past events before a floor: their rows, and the process that has committed them.
-use Rattle.std.proofs.Common.{◌≡◌, ◌++◌, ◌+◌, ◌∷◌, Bool, true, false, if◌then◌else◌, ℕ, suc, List, [], map, take, drop, length, refl, sym, subst, ◌∙◌, ap, arith, append_assoc, get_or, ◌<◌, ◌≤◌, slice_get, Option, Some, None}
+use Rattle.std.proofs.Common.{◌≡◌, ◌++◌, ◌+◌, ◌∷◌, Bool, true, false, if◌then◌else◌, ℕ, suc, List, [], map, take, drop, length, refl, sym, subst, ◌∙◌, ap, arith, append_assoc, get_or, ◌<◌, ◌≤◌, slice_get, Some, None}
 use Rattle.std.specs.Prelude.{All}
 use Rattle.std.specs.List.{enumerate_from, prefix_len}
 use Rattle.std.proofs.lemmas.List.{map-append, take_more, length-take-le}
@@ -7,7 +7,6 @@ use Rattle.std.proofs.lemmas.List.Elements.{All-tail}
 use Rattle.std.proofs.lemmas.Bool.Decides.{nat_tests}
 use Rattle.vt_key.specs.promise.Times.{Time}
 use Rattle.vt_key.specs.promise.Keys.{Key}
-use Rattle.vt_key.specs.declared.order.Rank.{Rank}
 use Rattle.vt_key.specs.declared.letter.Letter.{Letter}
 use Rattle.vt_key.proofs.ListLemmas.{rising-right}
 use Rattle.vt_stream.specs.inside.Words.{Stream}
@@ -21,12 +20,10 @@ use Rattle.vt_steps.specs.promise.Rows.{rows_from}
 use Rattle.vt_steps.specs.promise.World.{Entry, LogicalProcess, entry_events, triple_after}
 use Rattle.vt_steps.specs.promise.PartSteps.{is_below, ripe, ripe_rows, process_after_commit}
 use Rattle.vt_steps.specs.inside.StandsFor.{entry_of, fired_at, LeadTo}
-use Rattle.vt_steps.proofs.letters.RankTimes.{rank-order-time}
 use Rattle.vt_steps.proofs.steps.MemoryLemmas.{forgets}
 use Rattle.vt_past.specs.declared.event.PastEvent.{PastEvent}
 use Rattle.vt_lp.specs.inside.Held.{HeldProcess, StandsFor, remembered, process_memory, IsNotPending, IsOwnEvent, IsRisingPast, IsProcessInside}
-use Rattle.vt_past.specs.inside.Events.{last_rank}
-use Rattle.vt_lp.specs.inside.Ripe.{is_ripe, begins_ripe, unripe_events, rows_of_ripe}
+use Rattle.vt_lp.specs.inside.Ripe.{is_ripe, unripe_events, rows_of_ripe}
 
 -- the rows of records and one more
 pub rows_of_more : (key : Key) (records : List Record) (i : ℕ) (d : Record) → i < length records →
@@ -54,32 +51,6 @@ rows_grow key records i n d others rows new is same within before =
     ∙ ap (λ rs. rs ++ last) before
     ∙ append_assoc others (rows_of key (take i records)) last
     ∙ ap (λ rs. others ++ rs) (sym (rows_of_more key records i d within))
-
-module _ {P K : Type 0} where
-  -- no past event is after the last one
-  until-last : (e : PastEvent P K) (es : List (PastEvent P K)) (last : Rank) → IsRisingPast (e ∷ es) → last_rank (e ∷ es) ≡ Some last → e.letter.event.rank.key.time ≤ last.key.time
-  until-last e [] last rises at = let same : e.letter.event.rank ≡ last = cc in omega (arith, ap (λ (r : Rank). r.key.time) same)
-  until-last e (d ∷ ds) last rises at =
-      let first = rank-order-time e.letter.event.rank d.letter.event.rank rises.0.0 in
-      let others = until-last d ds last rises.1 at in
-      omega (arith, first, others)
-
-  -- where the last one is before the floor, none stays
-  pub all-ripe : (floor : Time) (es : List (PastEvent P K)) (last : Rank) → IsRisingPast es → last_rank es ≡ Some last → last.key.time < floor → unripe_events floor es ≡ []
-  all-ripe floor [] last rises at early = refl
-  all-ripe floor (e ∷ []) last rises at early =
-      let soon = until-last e [] last rises at in
-      let is : is_ripe floor e ≡ true = grind (arith, nat_tests) in
-      ap (λ (b : Bool). if b then [] else e ∷ []) is
-  all-ripe floor (e ∷ d ∷ ds) last rises at early =
-      let soon = until-last e (d ∷ ds) last rises at in
-      let is : is_ripe floor e ≡ true = grind (arith, nat_tests) in
-      ap (λ (b : Bool). if b then unripe_events floor (d ∷ ds) else e ∷ d ∷ ds) is ∙ all-ripe floor (d ∷ ds) last rises.1 at early
-
-  -- and the first one is before it
-  pub begins-early : (floor : Time) (es : List (PastEvent P K)) (last : Rank) → IsRisingPast es → last_rank es ≡ Some last → last.key.time < floor → begins_ripe floor es ≡ true
-  begins-early floor [] last rises at early = let nothing : Option Rank = None in absurd (let e : nothing ≡ Some last = at in cc)
-  begins-early floor (e ∷ es) last rises at early = let soon = until-last e es last rises at in grind (arith, nat_tests)
 
 module _ {P K : Type 0} (floor : Time) where
   -- the past events that go first, as many as are before the floor

@@ -2,5 +2,4 @@ pub mod Held
 pub mod Guards
 pub mod Ripe
 pub mod Past
-pub mod Used
 pub mod Steps

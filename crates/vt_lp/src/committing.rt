@@ -1,23 +1,21 @@
 //! Past events that are committed: their rows, and how they are forgotten.
 
-ghost use Rattle.std.specs.Prelude.{◌≡◌, ◌+◌, ◌++◌, List, length, IsFalse, IfOk, IfErr};
-ghost use Rattle.std.specs.List.{sum_by};
+ghost use Rattle.std.specs.Prelude.{◌≡◌, ◌++◌, List, IfOk, IfErr};
 ghost use Rattle.vt_key.specs.declared.fault.Fault.TheVariants.{Memory};
 ghost use Rattle.vt_model.specs.declared.rows.Row.{Row};
 ghost use Rattle.vt_model.specs.promise.Handler.{Handlers};
 ghost use Rattle.vt_model.specs.promise.Simulation.{simulation_of, rows_of};
 ghost use Rattle.vt_steps.specs.promise.World.{LogicalProcess};
 ghost use Rattle.vt_steps.specs.promise.PartSteps.{ripe_rows, process_after_commit};
-ghost use Rattle.vt_past.specs.inside.Kept.{held_by};
-ghost use Rattle.vt_lp.specs.inside.Held.{StandsFor, IsRisingPast, executed_events};
-ghost use Rattle.vt_lp.specs.inside.Ripe.{begins_ripe, unripe_events, rows_of_ripe};
+ghost use Rattle.vt_lp.specs.inside.Held.{StandsFor, executed_events};
+ghost use Rattle.vt_lp.specs.inside.Ripe.{unripe_events, rows_of_ripe};
 
 use crate::Lp;
 use std::alloc::Global;
 use vt_key::{Event, Fault, Key, When};
 use vt_list::List;
 use vt_model::{Model as EventModel, Record, Row};
-use vt_past::{Past, PastEvent, Records, Spare};
+use vt_past::{Past, PastEvent, Records};
 
 impl<M: EventModel> Lp<M> {
     /// The past events, in the order of their execution.
@@ -34,17 +32,6 @@ impl<M: EventModel> Lp<M> {
             };
         }
         Ok(events)
-    }
-
-    /// Whether the first past event is before the floor. If not, [`Lp::ripe`] appends nothing and [`Lp::fossil`] changes
-    /// nothing.
-    pub fn is_ripe(&self, floor: When) -> bool
-        ensures { result ≡ begins_ripe floor self.now.past }
-    {
-        match self.past.front() {
-            Some(first) => first.key.when() < floor,
-            None => false,
-        }
     }
 
     /// Appends the rows of the past events before the floor, in the order of their execution. These are the events
@@ -70,66 +57,20 @@ impl<M: EventModel> Lp<M> {
         ensures same { (self.new.lp ≡ self.old.lp) × (self.new.config ≡ self.old.config) × (self.new.triple ≡ self.old.triple) × (self.new.pending ≡ self.old.pending) × (self.new.waiting ≡ self.old.waiting) }
         ensures past { self.new.past ≡ unripe_events floor self.old.past }
     {
-        let mut spare = Spare::new(self.past.events().allocator());
-        let _ = self.fossil_into(floor, &mut spare);
-    }
-
-    /// As [`Lp::fossil`], and keeps the memory of the forgotten events for [`Lp::execute_reusing`]. Returns whether
-    /// an event was forgotten; if not, nothing changes.
-    pub fn fossil_into(&mut self, floor: When, spare: &mut Spare<M::Payload, M::Kept>) -> bool
-        ensures committed { (handlers : Handlers _ _ _) (h : LogicalProcess _) → StandsFor handlers self.old h → StandsFor handlers self.new (process_after_commit floor h) }
-        ensures same { (self.new.lp ≡ self.old.lp) × (self.new.config ≡ self.old.config) × (self.new.triple ≡ self.old.triple) × (self.new.pending ≡ self.old.pending) × (self.new.waiting ≡ self.old.waiting) }
-        ensures past { self.new.past ≡ unripe_events floor self.old.past }
-        ensures forgot { result ≡ begins_ripe floor self.old.past }
-        ensures unchanged { IsFalse result → self.new ≡ self.old }
-        ensures kept { spare.new.events + length self.new.past ≡ spare.old.events + length self.old.past }
-        ensures held { spare.new.held + sum_by held_by self.new.past ≡ spare.old.held + sum_by held_by self.old.past }
-        ensures letters { spare.new.letters ≡ spare.old.letters }
-    {
-        drop_ripe(&mut self.past, spare, floor)
+        drop_ripe(&mut self.past, floor);
     }
 }
 
-/// Drops the first past events, as many as are before the floor, and keeps their memory. Returns whether there was
-/// one. If the last one is before the floor, all are, and no key of a past event is read.
-fn drop_ripe<P: Copy, K: Copy>(past: &mut Past<P, K>, spare: &mut Spare<P, K>, floor: When) -> bool
-    requires rising { IsRisingPast past.old }
-    ensures unripe { past.new ≡ unripe_events floor past.old }
-    ensures forgot { result ≡ begins_ripe floor past.old }
-    ensures unchanged { IsFalse result → past.new ≡ past.old }
-    ensures kept { spare.new.events + length past.new ≡ spare.old.events + length past.old }
-    ensures held { spare.new.held + sum_by held_by past.new ≡ spare.old.held + sum_by held_by past.old }
-    ensures letters { spare.new.letters ≡ spare.old.letters }
+/// Drops the first past events, as many as are before the floor.
+fn drop_ripe<P: Copy, K: Copy>(past: &mut Past<P, K>, floor: When)
+    ensures { past.new ≡ unripe_events floor past.old }
 {
-    match past.last_rank() {
-        Some(last) if last.key.when() < floor => {
-            spare.collect_all(past);
-            true
-        }
-        _ => drop_first(past, spare, floor),
-    }
-}
-
-/// As [`drop_ripe`], one event after the other.
-fn drop_first<P: Copy, K: Copy>(past: &mut Past<P, K>, spare: &mut Spare<P, K>, floor: When) -> bool
-    ensures unripe { past.new ≡ unripe_events floor past.old }
-    ensures forgot { result ≡ begins_ripe floor past.old }
-    ensures unchanged { IsFalse result → past.new ≡ past.old }
-    ensures kept { spare.new.events + length past.new ≡ spare.old.events + length past.old }
-    ensures held { spare.new.held + sum_by held_by past.new ≡ spare.old.held + sum_by held_by past.old }
-    ensures letters { spare.new.letters ≡ spare.old.letters }
-{
-    let mut some = false;
     while let Some(first) = past.front() {
         if first.key.when() >= floor {
             break;
         }
-        if let Some(committed) = past.pop_front() {
-            spare.collect(committed);
-            some = true;
-        }
+        past.pop_front();
     }
-    some
 }
 
 /// Appends the rows of the first past events, as many as are before the floor. If memory is refused, some may have been

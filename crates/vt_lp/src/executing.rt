@@ -17,8 +17,6 @@ ghost use Rattle.vt_steps.specs.promise.World.{LogicalProcess};
 ghost use Rattle.vt_lp.specs.inside.Held.{StandsFor, AllWithinRun, IsReady, remembered};
 ghost use Rattle.vt_lp.specs.inside.Steps.{execute_held, DoesAtProcess, RefusesExecution};
 ghost use Rattle.vt_past.specs.inside.Events.{past_event};
-ghost use Rattle.vt_past.specs.inside.Kept.{GaveEvent};
-ghost use Rattle.vt_lp.specs.inside.Used.{count_sends, after_letters, IsLeft};
 ghost use Rattle.vt_lp.specs.inside.Past.{ready_event, IsAdvanceRefusal};
 
 use crate::letters::ends_before;
@@ -28,7 +26,7 @@ use std::alloc::Global;
 use vt_key::{Event, Fault, Letter, MAX_COUNT, Sign, When};
 use vt_list::List;
 use vt_model::{Config, MAX_DRAWS, Model as EventModel, Out, Process, Record, Sent, Undo};
-use vt_past::{Past, Spare, UndoEntry};
+use vt_past::{Past, PastEvent, UndoEntry};
 use vt_pending::Pending;
 
 impl<M: EventModel> Lp<M> {
@@ -62,50 +60,14 @@ impl<M: EventModel> Lp<M> {
         ensures within { AllWithinRun self.old.config outbox.old → AllWithinRun self.old.config outbox.new }
         ensures same { (self.new.lp ≡ self.old.lp) × (self.new.config ≡ self.old.config) }
     {
-        let mut out = Out::new(self.config, 0, When::tick(0), 0);
-        let mut spare = Spare::new(alloc);
-        self.execute_reusing(alloc, model, serial, outbox, &mut spare, &mut out)
-    }
-
-    /// As [`Lp::execute`], but uses the memory of committed events as long as there is some, and then new memory, and for the
-    /// handler an `out` that the caller lends, so that many events have one. Any `out` serves, as
-    /// `Out::new(config, 0, When::tick(0), 0)`. What is in it afterwards isn't said.
-    ///
-    /// Each message, each anti-message and the past event take a kept node, as long as there is one. The nodes of the letters
-    /// in a kept past event stay with `spare`. Where memory was refused, the nodes that the letters took are freed. After
-    /// another refusal `spare` is as it was.
-    pub fn execute_reusing(
-        &mut self,
-        alloc: Global,
-        model: &M,
-        serial: &mut u64,
-        outbox: &mut List<Letter<M::Payload>>,
-        spare: &mut Spare<M::Payload, M::Kept>,
-        out: &mut Out<M::Payload>,
-    ) -> Result<(), Fault>
-        ensures done { DoesAtProcess (M.handlers model.now) self.old self.new (execute_held (M.handlers model.now) self.old serial.old) outbox.old outbox.new serial.old serial.new result }
-        ensures refused { RefusesExecution (M.handlers model.now) self.old serial.old result }
-        ensures faults { IfErr result (λ fault. (fault ≡ NotLawful) ⊎ ((fault ≡ Exhausted) ⊎ (fault ≡ Memory))) }
-        ensures no_event { ready_event self.old.pending self.old.past ≡ None → result ≡ Err NotLawful }
-        ensures unchanged { (h : LogicalProcess _) → StandsFor (M.handlers model.now) self.old h → IfErr result (λ fault. self.new ≡ self.old) }
-        ensures restored { M.IsState model.now self.old.triple.state → IfErr result (λ fault. self.new ≡ self.old) }
-        ensures not_lawful { IfErr result (λ fault. fault ≡ NotLawful → self.new ≡ self.old) }
-        ensures but_state { IfErr result (λ fault. (self.new.past ≡ self.old.past) × (self.new.pending ≡ self.old.pending) × (self.new.waiting ≡ self.old.waiting) × (self.new.triple.number ≡ self.old.triple.number) × (self.new.triple.place ≡ self.old.triple.place)) }
-        ensures kept { IfErr result (λ fault. (outbox.new ≡ outbox.old) × (serial.new ≡ serial.old)) }
-        ensures counted { IfOk result (λ _. (self.new.triple.number ≤ MAX_COUNT) × (serial.new ≤ MAX_COUNT)) }
-        ensures within { AllWithinRun self.old.config outbox.old → AllWithinRun self.old.config outbox.new }
-        ensures same { (self.new.lp ≡ self.old.lp) × (self.new.config ≡ self.old.config) }
-        ensures used { let sent = count_sends (simulation_of (M.handlers model.now) self.old.config) self.old in IfOk result (λ _. GaveEvent (after_letters sent spare.old) spare.new) }
-        ensures left { let sent = count_sends (simulation_of (M.handlers model.now) self.old.config) self.old in IfErr result (IsLeft sent spare.old spare.new) }
-    {
         let Some(event) = ready_event(&self.pending, &self.past) else {
             return Err(Fault::NotLawful);
         };
+        let mut out = Out::new(self.config, 0, When::tick(0), 0);
         let (undo_entry, mut messages) = match advance(
             &mut self.process,
             alloc,
-            spare,
-            out,
+            &mut out,
             model,
             self.config,
             *serial,
@@ -120,7 +82,6 @@ impl<M: EventModel> Lp<M> {
         let number = undo_entry.number;
         if let Err(fault) = keep(
             alloc,
-            spare,
             &mut self.pending,
             &mut self.past,
             undo_entry,
@@ -155,7 +116,6 @@ fn ready_event<P: Copy, K: Copy>(pending: &Pending<P>, past: &Past<P, K>) -> Opt
 fn advance<M: EventModel>(
     process: &mut Process<M>,
     alloc: Global,
-    spare: &mut Spare<M::Payload, M::Kept>,
     out: &mut Out<M::Payload>,
     model: &M,
     config: Config,
@@ -183,10 +143,7 @@ fn advance<M: EventModel>(
     ensures drew { IfOk result (λ a. (a.0.number ≡ process.old.number) × (process.new.stream ≡ moved process.old.stream a.0.drawn)) }
     ensures in_range { process.old.stream.place < 2 ^ 64 }
     ensures refused { let fired = (simulation_of (M.handlers model.now) config).fire event.dest (triple_at process.old.state process.old.number process.old.stream) (unstamped event) in IfErr result (λ fault. IsAdvanceRefusal fired serial fault) }
-    ensures used { let fired = (simulation_of (M.handlers model.now) config).fire event.dest (triple_at process.old.state process.old.number process.old.stream) (unstamped event) in IfOk result (λ a. spare.new ≡ after_letters (length fired.sends) spare.old) }
-    ensures left { let fired = (simulation_of (M.handlers model.now) config).fire event.dest (triple_at process.old.state process.old.number process.old.stream) (unstamped event) in IfErr result (IsLeft (length fired.sends) spare.old spare.new) }
 {
-    spare.read_ahead();
     let event = &event;
     let number = process.number;
     let sent = unstamped(event);
@@ -197,7 +154,7 @@ fn advance<M: EventModel>(
         return Err(Fault::Exhausted);
     }
     let worker = config.owner(event.dest);
-    let (messages, anti_messages) = match both_letters(alloc, spare, worker, serial, out.sends()) {
+    let (messages, anti_messages) = match both_letters(alloc, worker, serial, out.sends()) {
         Ok(made) => made,
         Err(fault) => {
             process.undo(model, sent, bits, kept, drawn, number);
@@ -217,9 +174,8 @@ fn advance<M: EventModel>(
 /// The messages of these sends, and the anti-messages that take them back.
 ///
 /// [`Fault::Memory`]: memory was refused.
-fn both_letters<P: Copy, K: Copy>(
+fn both_letters<P: Copy>(
     alloc: Global,
-    spare: &mut Spare<P, K>,
     worker: u32,
     serial: u64,
     sends: &[Sent<P>],
@@ -228,14 +184,12 @@ fn both_letters<P: Copy, K: Copy>(
     ensures messages { IfOk result (λ made. made.0 ≡ map (signed Plus) (stamped worker serial sends.now)) }
     ensures anti_messages { IfOk result (λ made. made.1 ≡ map (signed Minus) (stamped worker serial sends.now)) }
     ensures refused { IfErr result (λ fault. fault ≡ Memory) }
-    ensures used { spare.new ≡ after_letters (length sends.now) spare.old }
-    ensures none_left { IfErr result (λ _. spare.new.letters ≡ 0) }
 {
-    let messages = match letters(alloc, spare, Sign::Plus, worker, serial, sends) {
+    let messages = match letters(alloc, Sign::Plus, worker, serial, sends) {
         Ok(messages) => messages,
         Err(fault) => return Err(fault),
     };
-    let anti_messages = match letters(alloc, spare, Sign::Minus, worker, serial, sends) {
+    let anti_messages = match letters(alloc, Sign::Minus, worker, serial, sends) {
         Ok(anti_messages) => anti_messages,
         Err(fault) => return Err(fault),
     };
@@ -248,7 +202,6 @@ fn both_letters<P: Copy, K: Copy>(
 /// [`Fault::Memory`]: memory was refused.
 fn keep<P: Copy, K: Copy>(
     alloc: Global,
-    spare: &mut Spare<P, K>,
     pending: &mut Pending<P>,
     past: &mut Past<P, K>,
     undo_entry: UndoEntry<P, K>,
@@ -261,13 +214,11 @@ fn keep<P: Copy, K: Copy>(
     ensures rising { IsRising pending.new }
     ensures unchanged { IfErr result (λ fault. (pending.new ≡ pending.old) × (past.new ≡ past.old)) }
     ensures refused { IfErr result (λ fault. fault ≡ Memory) }
-    ensures used { IfOk result (λ _. GaveEvent spare.old spare.new) }
-    ensures none_left { IfErr result (λ _. (spare.new ≡ spare.old) × (spare.old.events ≡ 0)) }
 {
     let Some(letter) = pending.take_least() else {
         return Err(Fault::NotLawful);
     };
-    match spare.event(alloc, letter, undo_entry, records) {
+    match PastEvent::new(alloc, letter, undo_entry, records) {
         Ok(event) => {
             past.push_back(event);
             Ok(())

@@ -1,6 +1,6 @@
 //! Letters at a process: how it accepts one, and how two annihilate.
 
-ghost use Rattle.std.specs.Prelude.{◌≡◌, ◌+◌, suc, length, IfSome, IfNone, false, true, [], None, IfOk, IfErr};
+ghost use Rattle.std.specs.Prelude.{◌≡◌, suc, length, IfSome, IfNone, false, true, [], None, IfOk, IfErr};
 ghost use Rattle.vt_key.specs.declared.order.Stamp.{Stamp};
 ghost use Rattle.std.specs.List.{list_any, last_or};
 ghost use Rattle.vt_key.specs.promise.Order.{rank_same};
@@ -11,13 +11,13 @@ ghost use Rattle.vt_model.specs.promise.Settings.{end_of};
 ghost use Rattle.vt_steps.specs.promise.ProcessSteps.{cancel_process, accept_process, can_annihilate};
 ghost use Rattle.vt_lp.specs.inside.Held.{IsRisingPast};
 ghost use Rattle.vt_lp.specs.inside.Steps.{DoesAtProcess, RefusesAtProcess};
-ghost use Rattle.vt_lp.specs.inside.Guards.{holds_letter, would_lead, is_first, TellsSame, may_come_after};
+ghost use Rattle.vt_lp.specs.inside.Guards.{holds_letter, may_come_after};
 
 use crate::Lp;
 use vt_key::{Fault, Letter, Rank, Sign, Stamp};
 use vt_list::{List, Parcel, Predicate};
 use vt_model::Model as EventModel;
-use vt_past::{Past, PastEvent, Spare};
+use vt_past::{Past, PastEvent};
 use vt_pending::Pending;
 
 impl<M: EventModel> Lp<M> {
@@ -33,25 +33,10 @@ impl<M: EventModel> Lp<M> {
         }
     }
 
-    /// Whether this letter would be the first of its queue once it is accepted: before all pending messages, or before
-    /// all waiting anti-messages, by its sign. If not, what [`Lp::ready`], [`Lp::least_rank`] and [`Lp::least`] tell
-    /// stays when it is accepted.
-    pub fn would_lead(&self, letter: &Letter<M::Payload>) -> bool
-        ensures { result ≡ would_lead self.now.pending self.now.waiting letter.now.sign letter.now }
-    {
-        let queue = match letter.sign {
-            Sign::Plus => &self.pending,
-            Sign::Minus => &self.waiting,
-        };
-        comes_first(letter, queue)
-    }
-
     /// Accepts a letter for this process: a message becomes pending, and an anti-message waits. It takes no memory.
     ///
     /// [`Fault::NotLawful`]: the process holds a letter of this sign and rank already. The letter is handed back, and
     /// nothing changes.
-    // A call would cost a third of what it does.
-    #[inline(always)]
     pub fn accept(
         &mut self,
         letter: Parcel<Letter<M::Payload>>,
@@ -63,7 +48,6 @@ impl<M: EventModel> Lp<M> {
         ensures refused { (handlers : Handlers _ _ _) → RefusesAtProcess handlers self.old (accept_process letter) result }
         ensures kept { IfErr result (λ e. (e.0 ≡ NotLawful) × (e.1 ≡ letter) × (self.new ≡ self.old)) }
         ensures already { IfErr result (λ e. holds_letter self.old.pending self.old.waiting self.old.past letter.sign letter.event.rank ≡ true) }
-        ensures behind { IfOk result (λ done. would_lead self.old.pending self.old.waiting letter.sign letter ≡ false → TellsSame self.old self.new) }
         ensures same { (self.new.lp ≡ self.old.lp) × (self.new.config ≡ self.old.config) × (self.new.triple ≡ self.old.triple) × (self.new.past ≡ self.old.past) }
     {
         let Letter { event, sign } = *letter.get();
@@ -91,34 +75,11 @@ impl<M: EventModel> Lp<M> {
         ensures fewer { IfOk result (λ done. (suc (length self.new.pending) ≡ length self.old.pending) × (suc (length self.new.waiting) ≡ length self.old.waiting)) }
         ensures same { (self.new.lp ≡ self.old.lp) × (self.new.config ≡ self.old.config) × (self.new.triple ≡ self.old.triple) × (self.new.past ≡ self.old.past) }
     {
-        let mut spare = Spare::new(self.past.events().allocator());
-        self.cancel_into(stamp, &mut spare)
-    }
-
-    /// Like [`Lp::cancel`], and keeps the nodes of both letters for the next ones.
-    ///
-    /// [`Fault::NotLawful`]: as for [`Lp::cancel`]. `spare` is as it was too.
-    pub fn cancel_into(
-        &mut self,
-        stamp: Stamp,
-        spare: &mut Spare<M::Payload, M::Kept>,
-    ) -> Result<(), Fault>
-        ensures done { (handlers : Handlers _ _ _) → DoesAtProcess handlers self.old self.new (cancel_process stamp) [] [] 0 0 result }
-        ensures refused { (handlers : Handlers _ _ _) → RefusesAtProcess handlers self.old (cancel_process stamp) result }
-        ensures kept { IfErr result (λ fault. (fault ≡ NotLawful) × (self.new ≡ self.old) × (spare.new ≡ spare.old)) }
-        ensures freed { IfOk result (λ done. spare.new ≡ record spare.old { letters = spare.old.letters + 2 }) }
-        ensures lawful { IfOk result (λ done. can_annihilate stamp self.old.pending self.old.waiting ≡ true) }
-        ensures unlawful { IfErr result (λ fault. can_annihilate stamp self.old.pending self.old.waiting ≡ false) }
-        ensures fewer { IfOk result (λ done. (suc (length self.new.pending) ≡ length self.old.pending) × (suc (length self.new.waiting) ≡ length self.old.waiting)) }
-        ensures same { (self.new.lp ≡ self.old.lp) × (self.new.config ≡ self.old.config) × (self.new.triple ≡ self.old.triple) × (self.new.past ≡ self.old.past) }
-    {
         if !annihilate(stamp, &self.pending, &self.waiting) {
             return Err(Fault::NotLawful);
         }
-        let message = self.pending.take_stamp(stamp);
-        let anti_message = self.waiting.take_stamp(stamp);
-        spare.keep_if_some(message);
-        spare.keep_if_some(anti_message);
+        self.pending.take_stamp(stamp);
+        self.waiting.take_stamp(stamp);
         Ok(())
     }
 
@@ -134,16 +95,6 @@ impl<M: EventModel> Lp<M> {
         };
         let letter = self.waiting.find(&meets_its_message)?;
         Some(letter.event.rank.stamp)
-    }
-}
-
-/// Whether a letter is before all letters of a queue.
-fn comes_first<P: Copy>(letter: &Letter<P>, queue: &Pending<P>) -> bool
-    ensures { result ≡ is_first letter.now queue.now }
-{
-    match queue.least() {
-        Some(least) => letter.event.rank.is_before(&least.event.rank),
-        None => true,
     }
 }
 
@@ -190,8 +141,6 @@ impl<P: Copy, K: Copy> Predicate<PastEvent<P, K>> for NotAfter {
 }
 
 /// Whether there is no past event, or the last one is before this rank.
-// A call would copy the rank.
-#[inline(always)]
 pub(crate) fn ends_before<P: Copy, K: Copy>(past: &Past<P, K>, rank: Rank) -> bool
     ensures { result ≡ may_come_after (last_or None past.now) rank }
 {
@@ -203,8 +152,6 @@ pub(crate) fn ends_before<P: Copy, K: Copy>(past: &Past<P, K>, rank: Rank) -> bo
 
 /// Whether a past event has this rank. The ranks of past events rise. So only one event can have it: the first one,
 /// from the back, that isn't after the rank.
-// Mostly one comparison tells it, and a call would copy the rank.
-#[inline(always)]
 fn has_executed<P: Copy, K: Copy>(past: &Past<P, K>, rank: Rank) -> bool
     requires { IsRisingPast past.now }
     ensures { result ≡ list_any (λ e. rank_same e.letter.event.rank rank) past.now }

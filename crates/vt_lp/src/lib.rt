@@ -16,4 +16,3 @@ mod undoing;
 
 pub use lp::Lp;
 pub use starting::start;
-pub use vt_past::Spare;

@@ -1,13 +1,11 @@
 //! The process and its readers.
 
-ghost use Rattle.std.specs.Prelude.{◌≡◌, ◌++◌, ◌%◌, ◌^◌, ◌↔◌, [], length, slice_get, IsFalse, IfSome, IfNone};
+ghost use Rattle.std.specs.Prelude.{◌≡◌, ◌++◌, ◌%◌, ◌^◌, length};
 ghost use Rattle.std.specs.Option.{option_copied};
 ghost use Rattle.vt_steps.specs.promise.Letters.{least_time};
-ghost use Rattle.vt_steps.specs.promise.World.{LogicalProcess};
 ghost use Rattle.vt_key.specs.inside.Queues.{IsRising};
-ghost use Rattle.vt_lp.specs.inside.Held.{StandsFor, IsRisingPast};
-ghost use Rattle.vt_lp.specs.inside.Guards.{ready_rank, lesser_rank, is_unsettled, HasNothingToSettle};
-ghost use Rattle.vt_model.specs.promise.Handler.{Handlers};
+ghost use Rattle.vt_lp.specs.inside.Guards.{lesser_rank, ready_rank};
+ghost use Rattle.vt_lp.specs.inside.Held.{IsRisingPast};
 ghost use Rattle.vt_model.specs.promise.Settings.{end_of};
 
 use crate::letters::ends_before;
@@ -91,35 +89,6 @@ impl<M: EventModel> Lp<M> {
         self.past.len()
     }
 
-    /// Whether there is a past event.
-    pub fn has_past(&self) -> bool
-        ensures { IsFalse result ↔ (self.now.past ≡ []) }
-    {
-        !self.past.events().is_empty()
-    }
-
-    /// Whether an anti-message waits for its message.
-    pub fn has_waiting(&self) -> bool
-        ensures { IsFalse result ↔ (self.now.waiting ≡ []) }
-    {
-        !self.waiting.is_empty()
-    }
-
-    /// Whether an anti-message waits for its message, or [`Lp::execute`] isn't lawful. If neither is so, [`Lp::undo`] isn't lawful, and
-    /// [`Lp::cancel`] isn't for any stamp.
-    pub fn is_unsettled(&self) -> bool
-        ensures value { result ≡ is_unsettled self.now }
-        ensures settled { IsFalse result → (handlers : Handlers _ _ _) (h : LogicalProcess _) → StandsFor handlers self.now h → HasNothingToSettle h }
-    {
-        if self.has_waiting() {
-            return true;
-        }
-        match self.pending.least() {
-            Some(least) => !ends_before(&self.past, least.event.rank),
-            None => true,
-        }
-    }
-
     /// The number of pending messages, modulo 2^64.
     pub fn pending_len(&self) -> usize
         ensures { result ≡ length self.now.pending % 2 ^ 64 }
@@ -138,25 +107,14 @@ impl<M: EventModel> Lp<M> {
     pub fn least(&self) -> When
         ensures { result ≡ least_time (end_of self.now.config) (self.now.pending ++ self.now.waiting) }
     {
-        match self.least_rank() {
+        match lesser(self.pending.least(), self.waiting.least()) {
             Some(rank) => rank.key.when(),
             None => self.config.end(),
         }
     }
 
-    /// The least rank of all pending messages and waiting anti-messages; None if there are none. The ranks of each of
-    /// the two queues rise strictly, and so do those of the past events.
-    pub fn least_rank(&self) -> Option<Rank>
-        ensures rank { result ≡ lesser_rank (slice_get self.now.pending 0) (slice_get self.now.waiting 0) }
-        ensures time { IfSome result (λ rank. rank.key.time ≡ least_time (end_of self.now.config) (self.now.pending ++ self.now.waiting)) }
-        ensures nothing { IfNone result ((self.now.pending ≡ []) × (self.now.waiting ≡ [])) }
-        ensures rising { IsRising self.now.pending × IsRising self.now.waiting × IsRisingPast self.now.past }
-    {
-        lesser(self.pending.least(), self.waiting.least())
-    }
-
     /// The rank of the event that [`Lp::execute`] would execute: that of the least pending message, if it comes after
-    /// the last past event. Otherwise None. The ranks of both queues and of the past events rise strictly.
+    /// the last past event. Otherwise None. The ranks of each of the two queues rise strictly, and so do those of the past events.
     pub fn ready(&self) -> Option<Rank>
         ensures rank { result ≡ ready_rank self.now.pending self.now.past }
         ensures rising { IsRising self.now.pending × IsRising self.now.waiting × IsRisingPast self.now.past }

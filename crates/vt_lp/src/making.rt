@@ -1,24 +1,20 @@
 //! Letters for what an event sends, and an event without its stamp.
 
-ghost use Rattle.std.specs.Prelude.{◌≡◌, ◌+◌, ◌-◌, ◌≤◌, ◌↔◌, length, map, IsTrue, IfOk, IfErr};
+ghost use Rattle.std.specs.Prelude.{◌≡◌, ◌+◌, ◌≤◌, ◌↔◌, length, map, IsTrue, IfOk, IfErr};
 ghost use Rattle.vt_key.specs.declared.fault.Fault.TheVariants.{Memory};
 ghost use Rattle.vt_steps.specs.promise.Letters.{unstamped, stamped, signed};
 
 use std::alloc::Global;
 use vt_key::{Event, Fault, Letter, MAX_COUNT, Rank, Sign, Stamp};
-use vt_list::List;
+use vt_list::{List, Parcel};
 use vt_model::Sent;
-use vt_past::Spare;
 
 /// The letters of these sends, each in a parcel of its own: with this sign, and with stamps of this worker from
 /// `serial` on.
 ///
 /// [`Fault::Memory`]: memory was refused.
-// An event mostly sends one letter, and a call costs as much as making it.
-#[inline(always)]
-pub(crate) fn letters<P: Copy, K: Copy>(
+pub(crate) fn letters<P: Copy>(
     alloc: Global,
-    spare: &mut Spare<P, K>,
     sign: Sign,
     worker: u32,
     serial: u64,
@@ -27,8 +23,6 @@ pub(crate) fn letters<P: Copy, K: Copy>(
     requires few { serial + length sends.now ≤ MAX_COUNT }
     ensures letters { IfOk result (λ letters. letters ≡ map (signed sign) (stamped worker serial sends.now)) }
     ensures refused { IfErr result (λ fault. fault ≡ Memory) }
-    ensures used { spare.new ≡ record spare.old { letters = spare.old.letters - length sends.now } }
-    ensures none_left { IfErr result (λ _. spare.new.letters ≡ 0) }
 {
     let mut letters = List::new(alloc);
     let mut serial = serial;
@@ -42,7 +36,7 @@ pub(crate) fn letters<P: Copy, K: Copy>(
             dest: send.dest,
             payload: send.payload,
         };
-        let Ok(letter) = spare.letter(alloc, Letter { event, sign }) else {
+        let Ok(letter) = Parcel::new(alloc, Letter { event, sign }) else {
             return Err(Fault::Memory);
         };
         letters.push_back(letter);
@@ -52,8 +46,6 @@ pub(crate) fn letters<P: Copy, K: Copy>(
 }
 
 /// An event as the model knows it: without its stamp.
-// A call would copy it once more.
-#[inline(always)]
 pub(crate) fn unstamped<P: Copy>(event: &Event<P>) -> Sent<P>
     ensures { result ≡ unstamped event.now }
 {

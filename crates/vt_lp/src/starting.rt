@@ -14,7 +14,7 @@ use std::alloc::Global;
 use vt_key::{Fault, Letter, MAX_COUNT, Sign, When};
 use vt_list::List;
 use vt_model::{Config, Model as EventModel, Out, Process};
-use vt_past::{Past, Spare};
+use vt_past::Past;
 use vt_pending::Pending;
 
 impl<M: EventModel> Lp<M> {
@@ -45,8 +45,7 @@ impl<M: EventModel> Lp<M> {
         if lp >= config.lps {
             return Err(Fault::NotLawful);
         }
-        let mut spare = Spare::new(alloc);
-        let (process, mut messages) = match start(alloc, &mut spare, model, config, lp, *serial) {
+        let (process, mut messages) = match start(alloc, model, config, lp, *serial) {
             Ok(started) => started,
             Err(fault) => return Err(fault),
         };
@@ -69,7 +68,6 @@ impl<M: EventModel> Lp<M> {
 /// [`Fault::Exhausted`]: the serial would pass 2^63. [`Fault::Memory`]: memory was refused.
 pub fn start<M: EventModel>(
     alloc: Global,
-    spare: &mut Spare<M::Payload, M::Kept>,
     model: &M,
     config: Config,
     lp: u32,
@@ -91,7 +89,7 @@ pub fn start<M: EventModel>(
         return Err(Fault::Exhausted);
     }
     let worker = config.owner(lp);
-    match letters(alloc, spare, Sign::Plus, worker, serial, out.sends()) {
+    match letters(alloc, Sign::Plus, worker, serial, out.sends()) {
         Ok(messages) => Ok((process, messages)),
         Err(fault) => Err(fault),
     }

@@ -4,7 +4,6 @@ ghost use Rattle.std.specs.Prelude.{◌≡◌, suc, true, false, not, None, leng
 ghost use Rattle.std.specs.List.{last_or, list_any};
 ghost use Rattle.vt_key.specs.promise.Order.{rank_before};
 ghost use Rattle.vt_key.specs.declared.fault.Fault.TheVariants.{NotLawful};
-ghost use Rattle.vt_past.specs.inside.Kept.{TookEvent};
 ghost use Rattle.vt_steps.specs.promise.ProcessSteps.{undo_process};
 ghost use Rattle.vt_lp.specs.inside.Held.{AllWithinRun};
 ghost use Rattle.vt_lp.specs.inside.Steps.{DoesAtProcess, RefusesAtProcess};
@@ -15,7 +14,7 @@ use crate::making::unstamped;
 use vt_key::{Fault, Letter, Rank};
 use vt_list::List;
 use vt_model::Model as EventModel;
-use vt_past::{Past, Spare, UndoEntry};
+use vt_past::{Past, UndoEntry};
 use vt_pending::Pending;
 
 impl<M: EventModel> Lp<M> {
@@ -35,39 +34,13 @@ impl<M: EventModel> Lp<M> {
         ensures same { (self.new.lp ≡ self.old.lp) × (self.new.config ≡ self.old.config) }
         ensures shorter { IfOk result (λ _. (suc (length self.new.past) ≡ length self.old.past) × (length self.new.pending ≡ suc (length self.old.pending)) × (self.new.waiting ≡ self.old.waiting)) }
     {
-        let mut spare = Spare::new(self.past.events().allocator());
-        self.undo_into(model, outbox, &mut spare)
-    }
-
-    /// Like [`Lp::undo`], and keeps the node of the past event for the next one, where that of a letter is kept: this one
-    /// stands in it then.
-    ///
-    /// [`Fault::NotLawful`]: as for [`Lp::undo`]. `spare` is as it was too.
-    // Mostly nothing forces an undo, and one comparison tells it.
-    #[inline(always)]
-    pub fn undo_into(
-        &mut self,
-        model: &M,
-        outbox: &mut List<Letter<M::Payload>>,
-        spare: &mut Spare<M::Payload, M::Kept>,
-    ) -> Result<(), Fault>
-        ensures done { DoesAtProcess (M.handlers model.now) self.old self.new undo_process outbox.old outbox.new 0 0 result }
-        ensures refused { RefusesAtProcess (M.handlers model.now) self.old undo_process result }
-        ensures lawful { IfOk result (λ done. must_undo_last self.old.pending self.old.waiting (last_or None self.old.past) ≡ true) }
-        ensures unlawful { IfErr result (λ fault. must_undo_last self.old.pending self.old.waiting (last_or None self.old.past) ≡ false) }
-        ensures kept { IfErr result (λ fault. (fault ≡ NotLawful) × (self.new ≡ self.old) × (outbox.new ≡ outbox.old) × (spare.new ≡ spare.old)) }
-        ensures freed { IfOk result (λ done. TookEvent spare.old spare.new) }
-        ensures within { AllWithinRun self.old.config outbox.old → AllWithinRun self.old.config outbox.new }
-        ensures same { (self.new.lp ≡ self.old.lp) × (self.new.config ≡ self.old.config) }
-        ensures shorter { IfOk result (λ _. (suc (length self.new.past) ≡ length self.old.past) × (length self.new.pending ≡ suc (length self.old.pending)) × (self.new.waiting ≡ self.old.waiting)) }
-    {
         if !must_undo_last(&self.pending, &self.waiting, &self.past) {
             return Err(Fault::NotLawful);
         }
         let Some(last) = self.past.pop_back() else {
             return Err(Fault::NotLawful);
         };
-        let (letter, undo_entry) = spare.take_apart(last);
+        let (letter, undo_entry) = last.into_value().into_parts();
         let UndoEntry {
             kept,
             bits,

@@ -10,7 +10,7 @@ use vt_model::Bits;
 /// An executed event that is not committed yet, with all that its undo and its commit need.
 #[derive(Drop)]
 pub struct PastEvent<P: Copy, K: Copy> {
-    /// The event's key. It stands in the message too, but a commit reads no other node with this copy at hand.
+    /// The event's key, which stands in the message too.
     pub key: Key,
     /// The message that brought the event, in its own node: an undo moves it back.
     pub letter: Parcel<Letter<P>>,
@@ -24,7 +24,7 @@ pub struct PastEvent<P: Copy, K: Copy> {
     pub drawn: u32,
     /// The send number before the event.
     pub number: u64,
-    /// The records that the event made. They stand last, since mostly only their first place is used.
+    /// The records that the event made.
     pub records: Records,
     ghost keyed: { letter.event.rank.key ≡ key },
 }

@@ -1,6 +1,6 @@
 //! The past events of a process.
 
-ghost use Rattle.std.specs.Prelude.{◌≡◌, ◌-◌, ◌%◌, ◌^◌, [], ◌∷◌, ◌++◌, length, slice_get, MatchOption};
+ghost use Rattle.std.specs.Prelude.{◌≡◌, ◌%◌, ◌^◌, [], ◌∷◌, ◌++◌, length, slice_get, MatchOption};
 ghost use Rattle.std.specs.Option.{option_copied};
 ghost use Rattle.vt_past.specs.inside.Events.{last_rank};
 
@@ -8,7 +8,7 @@ use crate::event::PastEvent;
 use std::alloc::Global;
 use std::marker::Model;
 use vt_key::Rank;
-use vt_list::{List, Parcel, Stack};
+use vt_list::{List, Parcel};
 
 /// Past events, in the order of their execution. A clause sees the list of them.
 ///
@@ -87,14 +87,6 @@ impl<P: Copy, K: Copy> Past<P, K> {
             self.last = None;
         }
         first
-    }
-
-    /// Puts all events on a stack, the first one on top. It writes only the node of the last one.
-    pub fn move_onto(&mut self, stack: &mut Stack<PastEvent<P, K>>)
-        ensures { (stack.new ≡ self.old ++ stack.old) × (self.new ≡ []) }
-    {
-        stack.push_all(&mut self.events);
-        self.last = None;
     }
 
     /// Takes out the last event; None if there is none.

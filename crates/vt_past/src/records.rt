@@ -1,6 +1,6 @@
 //! The records of a past event.
 
-ghost use Rattle.std.specs.Prelude.{◌≡◌, ◌≤◌, [], length, slice_get, IfSome};
+ghost use Rattle.std.specs.Prelude.{◌≡◌, ◌≤◌, [], length};
 ghost use Rattle.vt_model.specs.declared.limits.TheConstants.{MAX_RECORDS as MOST};
 
 use std::marker::Model;
@@ -8,7 +8,7 @@ use vt_model::{MAX_RECORDS, Record};
 
 /// The records that an event made. Contracts see the list of them.
 ///
-/// They take the first places of an array. Records that are written over others touch no place behind them.
+/// They take the first places of an array.
 #[derive(Drop)]
 pub struct Records {
     count: usize,
@@ -57,12 +57,5 @@ impl Records {
         ensures fits { length result.now ≤ MOST }
     {
         &self.places[..self.count]
-    }
-
-    /// The value of the first record. It is for reading ahead: if there is no record, it is any value.
-    pub fn first_value(&self) -> u64
-        ensures { IfSome (slice_get self.now 0) (λ first. result ≡ first.value) }
-    {
-        self.places[0].value
     }
 }

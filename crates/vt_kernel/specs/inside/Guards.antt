@@ -1,5 +1,5 @@
 -- What the calls of a worker answer and leave, by the steps of a world's part.
-use Rattle.std.specs.Prelude.{◌≡◌, ℕ, ◌⊎◌, ◌%◌, ◌^◌, Bool, true, false, List, ◌++◌, Option, Some, None, slice_set, slice_index_or}
+use Rattle.std.specs.Prelude.{◌≡◌, ℕ, ◌⊎◌, ◌%◌, ◌^◌, Bool, true, false, List, ◌++◌, Option, Some, None}
 use Rattle.std.specs.List.{last_or}
 use Rattle.std.specs.Option.{option_map_or}
 use Rattle.vt_key.specs.promise.Times.{Time}
@@ -77,12 +77,6 @@ pub record IsForgotten {S P K : Type 0} (floor : Time) (old new : HeldProcess S 
   pub config : new.config ≡ old.config
   pub pending : new.pending ≡ old.pending
   pub waiting : new.waiting ≡ old.waiting
-
--- of these processes, the one at this index has committed below a floor, and the others are the same
-pub record HasForgotten {S P K : Type 0} (floor : Time) (place : ℕ) (old new : List (HeldProcess S P K)) : Type 0 where
-  pub process : HeldProcess S P K
-  pub forgotten : (d : HeldProcess S P K) → IsForgotten floor (slice_index_or old place d) process
-  pub others : new ≡ slice_set old place process
 
 module _ {S P K : Type 0} (held : HeldWorker S P K) (p : ℕ) where
   -- process p is one of the worker's, and a letter forces the undo of its last past event

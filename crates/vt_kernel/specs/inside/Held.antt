@@ -14,8 +14,6 @@ use Rattle.vt_steps.specs.promise.World.{Part}
 use Rattle.vt_steps.specs.inside.StandsFor.{PartMemory, StandsForPart}
 use Rattle.vt_lp.specs.inside.Held.{HeldProcess, process_memory, AllWithinRun, IsWithinRun}
 use Rattle.vt_outbox.specs.inside.Outbox.{HeldOutbox}
-use Rattle.vt_contest.specs.declared.contest.Contest.{Contest}
-use Rattle.vt_contest.specs.inside.Contest.{IsContestOf}
 
 -- what a contract sees of a worker: its number and the config, and all that a part of a world has, with its processes as they
 -- are in memory. Process p is at index p / workers
@@ -90,7 +88,7 @@ pub record AreCounted (counts : Counts) : Type 0 where
 
 -- how the fields of a worker go together
 pub record IsWorkerInside {S P K : Type 0} (config : Config) (w : ℕ) (processes : List (HeldProcess S P K)) (outbox : HeldOutbox P)
-    (arrived : List (Mail P)) (sent got : Counts) (serial : ℕ) (contest : Contest) : Type 0 where
+    (arrived : List (Mail P)) (sent got : Counts) (serial : ℕ) : Type 0 where
   pub known : w < config.workers
   pub all_there : length processes ≡ (config.lps + (config.workers - 1) - w) / config.workers
   pub own_processes : AreProcesses config w 0 processes
@@ -100,4 +98,3 @@ pub record IsWorkerInside {S P K : Type 0} (config : Config) (w : ℕ) (processe
   pub few_sent : AreCounted sent
   pub few_got : AreCounted got
   pub few_made : serial ≤ MAX_COUNT
-  pub in_contest : IsContestOf processes contest

@@ -1,22 +1,16 @@
 -- What the calls of a process answer and leave, by the steps of a world's process.
-use Rattle.std.specs.Prelude.{◌≡◌, ℕ, ◌+◌, ◌<◌, ◌⊎◌, Bool, true, not, ◌||◌, List, [], ◌∷◌, ◌++◌, if◌then◌else◌, Option, Some, None, slice_get}
+use Rattle.std.specs.Prelude.{◌≡◌, ℕ, ◌+◌, ◌<◌, ◌⊎◌, Bool, List, [], ◌∷◌, ◌++◌, if◌then◌else◌, Option, Some, None}
 use Rattle.std.specs.List.{last_or}
-use Rattle.std.specs.Option.{is_none}
 use Rattle.vt_key.specs.promise.Order.{rank_before}
-use Rattle.vt_key.specs.promise.Times.{Time}
 use Rattle.vt_key.specs.declared.limits.TheConstants.{MAX_COUNT}
 use Rattle.vt_key.specs.declared.order.Rank.{Rank}
-use Rattle.vt_key.specs.declared.order.Stamp.{Stamp}
 use Rattle.vt_key.specs.declared.letter.Letter.{Letter}
 use Rattle.vt_key.specs.declared.letter.Sign.{Sign}
-use Rattle.vt_key.specs.declared.letter.Sign.TheVariants.{Plus, Minus}
 use Rattle.vt_key.specs.declared.fault.Fault.{Fault}
 use Rattle.vt_key.specs.declared.fault.Fault.TheVariants.{Memory, NotLawful, Exhausted}
 use Rattle.vt_model.specs.promise.Handler.{Handlers}
 use Rattle.vt_model.specs.promise.Simulation.{Simulation}
-use Rattle.vt_steps.specs.promise.Letters.{least_time, is_empty}
-use Rattle.vt_steps.specs.promise.World.{LogicalProcess}
-use Rattle.vt_steps.specs.promise.ProcessSteps.{ProcessEffect, may_follow, undo_process, cancel_process, holds}
+use Rattle.vt_steps.specs.promise.ProcessSteps.{ProcessEffect, may_follow, holds}
 use Rattle.vt_past.specs.declared.event.PastEvent.{PastEvent}
 use Rattle.vt_lp.specs.inside.Held.{HeldProcess, StandsFor}
 use Rattle.vt_lp.specs.promise.Guards.{number_of}
@@ -57,35 +51,9 @@ module _ {P K : Type 0} where
   holds_letter = holds (λ e. e.letter.event.rank)
 
 module _ {P : Type 0} where
-  -- a letter is before all letters of a queue, whose first one it is once it stands there
-  abbrev pub is_first : Letter P → List (Letter P) → Bool
-  is_first letter [] = true
-  is_first letter (least ∷ rest) = rank_before letter.event.rank least.event.rank
-
-  -- a letter of this sign would be the first of the pending messages or of the waiting anti-messages
-  abbrev pub would_lead : List (Letter P) → List (Letter P) → Sign → Letter P → Bool
-  would_lead pending waiting Plus letter = is_first letter pending
-  would_lead pending waiting Minus letter = is_first letter waiting
-
   -- the lesser of the ranks of two letters that may be there
   abbrev pub lesser_rank : Option (Letter P) → Option (Letter P) → Option Rank
   lesser_rank None None = None
   lesser_rank (Some a) None = Some a.event.rank
   lesser_rank None (Some b) = Some b.event.rank
   lesser_rank (Some a) (Some b) = if rank_before b.event.rank a.event.rank then Some b.event.rank else Some a.event.rank
-
--- an anti-message waits at a process, or it may execute nothing
-abbrev pub is_unsettled : {S P K : Type 0} → HeldProcess S P K → Bool
-is_unsettled process = not (is_empty process.waiting) || is_none (ready_rank process.pending process.past)
-
--- neither Undo nor Cancel is lawful at a process
-pub record HasNothingToSettle {P : Type 0} (process : LogicalProcess P) : Type 0 where
-  pub no_undo : undo_process process ≡ None
-  pub no_cancel : (stamp : Stamp) → cancel_process stamp process ≡ None
-
--- what a process tells of its least letters is as it was: the rank of the event that Execute would execute, the least rank, and
--- the least time
-pub record TellsSame {S P K : Type 0} (old new : HeldProcess S P K) : Type 0 where
-  pub ready : ready_rank new.pending new.past ≡ ready_rank old.pending old.past
-  pub rank : lesser_rank (slice_get new.pending 0) (slice_get new.waiting 0) ≡ lesser_rank (slice_get old.pending 0) (slice_get old.waiting 0)
-  pub time : (end : Time) → least_time end (new.pending ++ new.waiting) ≡ least_time end (old.pending ++ old.waiting)

@@ -1,5 +1,5 @@
 -- The past events before a floor, which a commit forgets, and their rows.
-use Rattle.std.specs.Prelude.{Bool, false, List, [], ◌∷◌, ◌++◌, if◌then◌else◌}
+use Rattle.std.specs.Prelude.{Bool, List, [], ◌∷◌, ◌++◌, if◌then◌else◌}
 use Rattle.vt_key.specs.promise.Times.{Time, time_before}
 use Rattle.vt_model.specs.declared.rows.Row.{Row}
 use Rattle.vt_model.specs.promise.Simulation.{rows_of}
@@ -9,11 +9,6 @@ module _ {P K : Type 0} (floor : Time) where
   -- the event is before the floor
   abbrev pub is_ripe : PastEvent P K → Bool
   is_ripe e = time_before e.letter.event.rank.key.time floor
-
-  -- the first event, if there is one, is before the floor
-  abbrev pub begins_ripe : List (PastEvent P K) → Bool
-  begins_ripe [] = false
-  begins_ripe (e ∷ es) = is_ripe e
 
   -- the past events without the first ones, which are before the floor
   abbrev pub unripe_events : List (PastEvent P K) → List (PastEvent P K)

@@ -1,5 +1,5 @@
 -- What the calls of a process answer and leave, by the steps of a world's process.
-use Rattle.std.specs.Prelude.{ℕ, ◌+◌, ◌++◌}
+use Rattle.std.specs.Prelude.{ℕ, ◌++◌}
 use Rattle.vt_model.specs.promise.Simulation.{Simulation}
 use Rattle.vt_steps.specs.promise.World.{LogicalProcess, triple_after}
 

@@ -1,5 +1,5 @@
 -- How an executed event becomes a past one, what its undo needs of it, and the rank of the last one.
-use Rattle.std.specs.Prelude.{refl, List, [], Option, Some, None}
+use Rattle.std.specs.Prelude.{refl, List, Option, Some, None}
 use Rattle.std.specs.List.{last_or}
 use Rattle.vt_key.specs.declared.order.Rank.{Rank}
 use Rattle.vt_key.specs.declared.letter.Letter.{Letter}
@@ -31,11 +31,6 @@ module _ {P K : Type 0} where
     number = event.number;
     anti_messages = event.anti_messages;
   }
-
-  -- what is left of an event whose letter and anti-messages were taken out, with this letter in it
-  abbrev pub left_event : PastEvent P K → Letter P → PastEvent P K
-  left_event event letter =
-      past_event letter (record (undo_entry_of event) { anti_messages = [] }) event.records
 
   -- the rank of the last past event, if there is one
   abbrev pub rank_of_last : Option (PastEvent P K) → Option Rank

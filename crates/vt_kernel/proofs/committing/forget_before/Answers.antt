@@ -1,27 +1,24 @@
-use Rattle.std.proofs.Common.{length, arith}
-use Rattle.vt_contest.proofs.ContestLemmas.{marked-within, unmarked-past}
-use Rattle.vt_kernel.proofs.CommitLemmas.{forgotten-skip, forgotten-more}
+use Rattle.std.proofs.Common.{◌≡◌, ◌<◌, Some, length, slice_get, slice_index_or, sym, subst, arith}
+use Rattle.std.proofs.lemmas.Option.{slice_get-get_or}
+use Rattle.vt_lp.specs.inside.Held.{HeldProcess}
+use Rattle.vt_kernel.proofs.CommitLemmas.{forgotten-more}
 use Rattle.vt_kernel.proofs.committing.forget_before.Goals as goal
 
-pub loop-place-preserved : goal.loop-place-preserved
-loop-place-preserved g c =
-    let inv = c.loop-place.invariant in
-    let found = c.in-Some.ensures in
-    let now = c.loop-place.processes.items in
-    let less = marked-within inv.contest c.in-Some.place _ found.marked.1 in
-    let count = inv.forgotten.count in
-    record {
-      forgotten = forgotten-more c.args.floor c.in-Some.place c.args.processes.now.items now c.forget_at.new.processes.items
-          (forgotten-skip c.args.floor c.loop-place.from c.in-Some.place c.args.processes.now.items now inv.forgotten found.marked.0 (omega (arith, less, count))
-          (λ k q later before at. unmarked-past inv.contest k q (found.first k later before) at))
-          (omega (arith, less, count)) c.forget_at.ensures.forgotten;
-      contest = c.forget_at.ensures.contest;
-    }
+pub loop-process-preserved : goal.loop-process-preserved
+loop-process-preserved g c =
+    let old = c.args.processes.now in
+    let now = c.loop-process.processes in
+    let place = c.loop-process.process-index in
+    let item : HeldProcess _ _ _ = slice_index_or now place c.process-item.result in
+    let new : HeldProcess _ _ _ = c.fossil.new.self in
+    let less : place < length now = subst (λ n. place < n) (sym c.loop-process.invariant.count) c.loop-process-test.true in
+    let at : slice_get now place ≡ Some item = slice_get-get_or now place c.process-item.result less in
+    let same = c.fossil.ensures.same in
+    forgotten-more c.args.floor place old now item new c.loop-process.invariant c.loop-process-test.true at
+    (record { committed = c.fossil.ensures.committed; lp = same.0; config = same.1; pending = same.3; waiting = same.4 })
+
+pub returns-clause-count : goal.returns-clause-count
+returns-clause-count g c = c.loop-process.invariant.count
 
 pub returns-clause-forgotten : goal.returns-clause-forgotten
-returns-clause-forgotten g c =
-    let inv = c.loop-place.invariant in
-    let old = c.args.processes.now.items in
-    let now = c.loop-place.processes.items in
-    (forgotten-skip c.args.floor c.loop-place.from (length old) old now inv.forgotten inv.forgotten.within (omega arith)
-    (λ k q later before at. unmarked-past inv.contest k q (c.in_default.ensures.nowhere k later) at)).forgotten
+returns-clause-forgotten g c k d within = c.loop-process.invariant.forgotten k d (omega (arith, within, c.loop-process-test.false))

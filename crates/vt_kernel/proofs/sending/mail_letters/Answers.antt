@@ -1,4 +1,4 @@
-use Rattle.std.proofs.Common.{◌≡◌, ◌∙◌, ◌++◌, ◌+◌, ◌≤◌, length, map, vec_len, List, sym, ap, subst}
+use Rattle.std.proofs.Common.{◌∙◌, ◌++◌, ◌+◌, ◌≤◌, length, map, vec_len, List, sym, ap, subst}
 use Rattle.std.specs.Vec.{vec_capacity}
 use Rattle.vt_key.specs.promise.Times.{Time, TimeAtMost, earlier}
 use Rattle.vt_key.specs.declared.letter.Letter.{Letter}

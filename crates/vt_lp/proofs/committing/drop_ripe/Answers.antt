@@ -1,15 +1,19 @@
-use Rattle.std.proofs.Common.{rules, ◌∙◌, ◌<◌, sym}
-use Rattle.vt_lp.proofs.RipeLemmas.{all-ripe, begins-early}
+use Rattle.std.proofs.Common.{rules, ◌≡◌, ◌≤◌, ◌∙◌, Some, None, slice_get, ap, sym, subst}
+use Rattle.std.specs.Option.{option_copied}
+use Rattle.vt_key.specs.promise.Keys.{Key}
+use Rattle.vt_lp.proofs.RipeLemmas.{unripe_late, unripe_none}
 use Rattle.vt_lp.proofs.committing.drop_ripe.Goals as goal
 
-pub returns-in-Some-clause-unripe : goal.returns-in-Some-clause-unripe
-returns-in-Some-clause-unripe g c =
-    let last = c.in-Some.last in
-    let early : last.key.time < c.args.floor = search rules in
-    c.collect_all.ensures.none_left ∙ sym (all-ripe c.args.floor c.args.past.now last c.requires.rising (sym c.last_rank.ensures ∙ c.in-Some.is) early)
+pub returns-then-ge : goal.returns-then-ge
+returns-then-ge g c =
+    let past = c.loop-first.past in
+    let first = c.in-Some.first.now in
+    let at : slice_get past 0 ≡ Some first = sym c.front.ensures ∙ ap option_copied c.in-Some.is in
+    let late : c.args.floor ≤ first.letter.event.rank.key.time = subst (λ (k : Key). c.args.floor ≤ k.time) (sym first.keyed) (let ge : c.args.floor ≤ first.key.time = search rules in ge) in
+    sym (unripe_late c.args.floor past first at late) ∙ c.loop-first.invariant
 
-pub returns-in-Some-clause-forgot : goal.returns-in-Some-clause-forgot
-returns-in-Some-clause-forgot g c =
-    let last = c.in-Some.last in
-    let early : last.key.time < c.args.floor = search rules in
-    sym (begins-early c.args.floor c.args.past.now last c.requires.rising (sym c.last_rank.ensures ∙ c.in-Some.is) early)
+pub returns-in_default : goal.returns-in_default
+returns-in_default g c =
+    let past = c.loop-first.past in
+    let at : slice_get past 0 ≡ None = sym c.front.ensures ∙ ap option_copied c.in_default.is in
+    sym (unripe_none c.args.floor past at) ∙ c.loop-first.invariant

@@ -1,7 +1,6 @@
 use Rattle.std.proofs.Common.{◌≡◌, ℕ, ◌<◌, ◌≤◌, ◌∙◌, inl, inr, List, [], map, length, ap, sym, subst, refl, arith}
 use Rattle.std.specs.List.{All}
 use Rattle.vt_key.specs.promise.Times.{TimeBefore}
-use Rattle.vt_key.specs.declared.fault.Fault.TheVariants.{Memory, Exhausted}
 use Rattle.vt_key.specs.declared.letter.Letter.{Letter}
 use Rattle.vt_key.specs.declared.letter.Sign.TheVariants.{Plus, Minus}
 use Rattle.vt_stream.specs.inside.Words.{Stream}
@@ -15,7 +14,6 @@ use Rattle.vt_model.proofs.LawLemmas.{lawful_of}
 use Rattle.vt_model.specs.promise.Settings.{end_of}
 use Rattle.vt_steps.specs.promise.Letters.{unstamped, stamped, signed}
 use Rattle.vt_lp.specs.inside.Held.{AllWithinRun, IsReady}
-use Rattle.vt_lp.specs.inside.Used.{after_letters}
 use Rattle.vt_model.proofs.Sizes.{out_fits}
 use Rattle.vt_lp.proofs.Stamping.{letters-all, letters-within}
 use Rattle.vt_lp.proofs.Advancing.{remembers, few-records, stream-back, stream-stays}
@@ -204,25 +202,3 @@ returns-in-Err-clause-unchanged g c ok =
     let stream = c.undo-in-Err.ensures.stream ∙ stream-back c.args.process.now.stream c.execute_into-drawn.new.self.stream c.execute_into-drawn.result.drawn c.execute_into-drawn.ensures.in_range c.execute_into-drawn.ensures.few c.execute_into-drawn.ensures.stream in
     let state = c.undo-in-Err.ensures.state ∙ c.execute_into-drawn.ensures.undoes ok in
     λ j. record { stream = stream j; number = c.undo-in-Err.ensures.number j; state = state j }
-
-pub returns-clause-used : goal.returns-clause-used
-returns-clause-used g c =
-    let sends = c.sends-2.ensures ∙ (came_to g (goal.at.returns-clause-used g c).After-execute_into-drawn).0.sends in
-    c.both_letters.ensures.used ∙ (λ j. after_letters (length (sends j)) (c.read_ahead.ensures j))
-
-pub returns-then-number-gt-MAX_COUNT-clause-left : goal.returns-then-number-gt-MAX_COUNT-clause-left
-returns-then-number-gt-MAX_COUNT-clause-left g c = record {
-  memory = λ is. absurd (let h : Exhausted ≡ Memory = is in cc);
-  others = λ _. c.read_ahead.ensures;
-}
-
-pub returns-in-Err-clause-left : goal.returns-in-Err-clause-left
-returns-in-Err-clause-left g c =
-    let sends = c.sends-2.ensures ∙ (came_to g (goal.at.returns-in-Err-clause-left g c).After-execute_into-drawn).0.sends in
-    record {
-      memory = λ _. record {
-        left = c.both_letters.ensures.used ∙ (λ j. after_letters (length (sends j)) (c.read_ahead.ensures j));
-        none = inl c.in-Err.ensures.none_left;
-      };
-      others = λ other. absurd (other c.in-Err.ensures.refused);
-    }

@@ -1,4 +1,4 @@
-use Rattle.std.proofs.Common.{◌≡◌, ◌+◌, ◌-◌, ◌∙◌, length, map, List, [], ◌∷◌, ◌++◌, take, ap, sym, arith, length-take}
+use Rattle.std.proofs.Common.{◌≡◌, ◌+◌, ◌∙◌, length, map, List, [], ◌∷◌, ◌++◌, take, ap, sym, arith, length-take}
 use Rattle.std.proofs.lemmas.List.{take_more}
 use Rattle.vt_model.specs.declared.sending.Sent.{Sent}
 use Rattle.vt_steps.specs.promise.Letters.{stamped, signed}
@@ -14,14 +14,10 @@ loop-send-preserved g c =
     let there : length before ≡ c.loop-send.send-index = omega (arith, length-take c.loop-send.send-index c.args.sends.now, c.loop-send-test.true) in
     let at : c.loop-send.serial ≡ c.args.serial + length before = omega (arith, there, c.loop-send.invariant.next) in
     let made : c.in-Ok.letter ≡ signed c.args.sign (event_of c.args.worker c.loop-send.serial send) = c.in-Ok.ensures.made in
-    let kept = c.args.spare.now in
-    let left = c.loop-send.invariant.left in
-    let fewer : kept.letters - c.loop-send.send-index - 1 ≡ kept.letters - (c.loop-send.send-index + 1) = omega arith in
     record {
       made = c.push_back.ensures
           ∙ (λ j. c.loop-send.invariant.made j ++ made j ∷ [])
           ∙ sym (letters-more c.args.sign c.args.worker c.args.serial c.loop-send.serial before send at)
           ∙ ap (λ (xs : List (Sent _)). map (signed c.args.sign) (stamped c.args.worker c.args.serial xs)) (sym more);
       next = omega (arith, c.loop-send.invariant.next);
-      left = c.letter.ensures.taken ∙ (λ j. record (left j) { letters = (left j).letters - 1 }) ∙ (λ j. record kept { letters = fewer j });
     }

@@ -11,18 +11,17 @@ use Rattle.vt_steps.specs.promise.ProcessSteps.{accept_process}
 use Rattle.vt_steps.specs.inside.Cells.{local_step}
 use Rattle.vt_steps.specs.declared.step.Step.TheVariants as step
 use Rattle.vt_lp.specs.inside.Held.{HeldProcess}
-use Rattle.vt_lp.specs.inside.Guards.{holds_letter, would_lead, IsDone as ProcessIsDone}
+use Rattle.vt_lp.specs.inside.Guards.{holds_letter, IsDone as ProcessIsDone}
 use Rattle.vt_kernel.specs.inside.Held.{HeldWorker, IsOwnMail, AllOwnMail, IsWorkerInside}
 use Rattle.vt_kernel.specs.inside.Guards.{IsDone, IsAcceptRefusal}
-use Rattle.vt_contest.proofs.ContestLemmas.{contest-kept}
 use Rattle.vt_kernel.proofs.PartLemmas.{stands_along}
 use Rattle.vt_kernel.proofs.LocalLemmas.{view_of, place-within, inside-changed, written-same}
 use Rattle.vt_kernel.proofs.InsideLemmas.{inside-arrived}
 use Rattle.vt_lp.proofs.AcceptLemmas.{accept-none}
 use Rattle.vt_kernel.proofs.DeliveryLemmas.{accept-done, accept-nothing, accept-refused, accept-lawful, removed-all}
-use Rattle.vt_kernel.proofs.ReentryLemmas.{IsOwnLetter, process-there, may-accept, still-there, was-in-contest, addressed}
+use Rattle.vt_kernel.proofs.ReentryLemmas.{IsOwnLetter, process-there, may-accept, addressed}
 use Rattle.vt_kernel.proofs.kernel.Kernel.accept.Given.{Over}
-use Rattle.vt_kernel.proofs.kernel.Kernel.accept.Goals.{After-index-place, After-index_mut-process}
+use Rattle.vt_kernel.proofs.kernel.Kernel.accept.Goals.{After-index-place, After-index_mut}
 use Rattle.vt_kernel.proofs.kernel.Kernel.accept.Goals as goal
 
 pub returns-in_default-clause-refused : goal.returns-in_default-clause-refused
@@ -41,10 +40,10 @@ index-requires g c =
     let less = place-within c.self.invariant (mail-there g (goal.at.index-requires g c).After-index-place).1.own in
     search (rules, less)
 
-pub returns-in_default-letter-clause-refused : goal.returns-in_default-letter-clause-refused
-returns-in_default-letter-clause-refused g c handlers part s =
+pub returns-in_default-new-clause-refused : goal.returns-in_default-new-clause-refused
+returns-in_default-new-clause-refused g c handlers part s =
     let i = c.self.inside in
-    let mail = mail-there g (goal.at.returns-in_default-letter-clause-refused g c).After-index-place in
+    let mail = mail-there g (goal.at.returns-in_default-new-clause-refused g c).After-index-place in
     let letter = c.in-Some.mail.now.letter in
     let q = c.index.result.now in
     let at = process-there c.self.invariant mail.1.own (sym c.index.ensures) in
@@ -62,57 +61,42 @@ returns-in_default-letter-clause-refused g c handlers part s =
           (subst (λ x. IsAcceptRefusal x Memory) (sym (accept-lawful handlers (view_of i) c.self.invariant.own_processes part stands c.args.i mail.0 mail.1.own at is).1) refl)
     ] refl)
 
-pub index_mut-process-requires : goal.index_mut-process-requires
-index_mut-process-requires g c =
-    let less = place-within c.self.invariant (mail-there g (goal.at.index_mut-process-requires g c).After-index-place).1.own in
+pub index_mut-requires : goal.index_mut-requires
+index_mut-requires g c =
+    let less = place-within c.self.invariant (mail-there g (goal.at.index_mut-requires g c).After-index-place).1.own in
     search (rules, less)
 
 -- the process is there
-there : (g : Over) (c : After-index_mut-process g) → slice_get c.self.inside.processes.items c.index-place.result ≡ Some c.index_mut-process.result.now
+there : (g : Over) (c : After-index_mut g) → slice_get c.self.inside.processes.items c.index-place.result ≡ Some c.index_mut.result.now
 there g c =
     let mail = addressed c.self.invariant _ c.deref.ensures.value (sym c.in-Some.ensures.lookup.0) c.in-Some.ensures.lookup.1 c.index-place.ensures in
-    process-there c.self.invariant mail.1.own (sym c.index_mut-process.ensures.value)
+    process-there c.self.invariant mail.1.own (sym c.index_mut.ensures.value)
 
 pub accept-requires-clause-dest : goal.accept-requires-clause-dest
 accept-requires-clause-dest g c κs within =
     let at = goal.at.accept-requires-clause-dest g c in
-    ap (λ (l : Letter _). l.event.dest) c.in-Ok.ensures.made ∙ (may-accept c.self.invariant (mail-there g at.After-index-place).1 (there g at.After-index_mut-process)).0
+    ap (λ (l : Letter _). l.event.dest) c.in-Ok.ensures.made ∙ (may-accept c.self.invariant (mail-there g at.After-index-place).1 (there g at.After-index_mut)).0
 
 pub accept-requires-clause-soon : goal.accept-requires-clause-soon
 accept-requires-clause-soon g c κs within =
     let at = goal.at.accept-requires-clause-soon g c in
-    subst (λ (l : Letter _). TimeBefore l.event.rank.key.time (end_of c.index_mut-process.result.now.config)) (sym c.in-Ok.ensures.made)
-    (may-accept c.self.invariant (mail-there g at.After-index-place).1 (there g at.After-index_mut-process)).1
+    subst (λ (l : Letter _). TimeBefore l.event.rank.key.time (end_of c.index_mut.result.now.config)) (sym c.in-Ok.ensures.made)
+    (may-accept c.self.invariant (mail-there g at.After-index-place).1 (there g at.After-index_mut)).1
 
-pub invariant_of-self-in-Err : goal.invariant_of-self-in-Err
-invariant_of-self-in-Err g c =
+pub invariant_of-self : goal.invariant_of-self
+invariant_of-self g c =
     let i = c.self.inside in
-    subst (λ (ps : List (HeldProcess _ _ _)). IsWorkerInside i.config i.worker ps i.outbox i.arrived.items i.sent i.got i.serial i.contest)
-    (sym (written-same i.processes.items c.index-place.result c.index_mut-process.result.now c.accept.new.self (there g (goal.at.invariant_of-self-in-Err g c).After-index_mut-process) c.in-Err.ensures.kept.2)) c.self.invariant
+    subst (λ (ps : List (HeldProcess _ _ _)). IsWorkerInside i.config i.worker ps i.outbox i.arrived.items i.sent i.got i.serial)
+    (sym (written-same i.processes.items c.index-place.result c.index_mut.result.now c.accept.new.self (there g (goal.at.invariant_of-self g c).After-index_mut) c.in-Err.ensures.kept.2)) c.self.invariant
 
 pub returns-in-Err-clause-refused : goal.returns-in-Err-clause-refused
 returns-in-Err-clause-refused g c handlers part s =
     let at = goal.at.returns-in-Err-clause-refused g c in
     let mail = mail-there g at.After-index-place in
-    let none = accept-refused handlers (view_of c.self.inside) c.self.invariant.own_processes part (stands_along c.self.view_is handlers part s) c.args.i mail.0 mail.1.own (there g at.After-index_mut-process)
+    let none = accept-refused handlers (view_of c.self.inside) c.self.invariant.own_processes part (stands_along c.self.view_is handlers part s) c.args.i mail.0 mail.1.own (there g at.After-index_mut)
     (λ process st. subst (λ (l : Letter _). accept_process l process ≡ None) c.in-Ok.ensures.made (c.in-Err.ensures.refused handlers process st)) in
     subst (λ (v : HeldWorker _ _ _). IsAcceptRefusal (local_step (simulation_of handlers v.config) v.worker (step.Accept v.worker c.args.i) part) c.in-Err.fault) c.self.view_is
     (subst (λ x. IsAcceptRefusal x c.in-Err.fault) (sym none) c.in-Err.ensures.kept.0)
-
-pub enter_accepted-requires-clause-there : goal.enter_accepted-requires-clause-there
-enter_accepted-requires-clause-there g c κs within = still-there _ _ (there g (goal.at.enter_accepted-requires-clause-there g c).After-index_mut-process) c.deref-2.ensures.value
-
-pub enter_accepted-requires-clause-was : goal.enter_accepted-requires-clause-was
-enter_accepted-requires-clause-was g c κs within = was-in-contest c.self.invariant _ (there g (goal.at.enter_accepted-requires-clause-was g c).After-index_mut-process) c.deref-2.ensures.value
-
-pub enter_accepted-requires-clause-behind : goal.enter_accepted-requires-clause-behind
-enter_accepted-requires-clause-behind g c κs within later =
-    let i = c.self.inside in
-    let old = c.index_mut-process.result.now in
-    let same = c.in_default-accept.ensures.same in
-    let behind = subst (λ (l : Letter _). would_lead old.pending old.waiting l.sign l ≡ false) (sym c.in-Ok.ensures.made) (sym c.would_lead-leads.ensures ∙ later) in
-    contest-kept i.processes.items c.deref-2.result.now c.index-place.result old c.accept.new.self i.contest (there g (goal.at.enter_accepted-requires-clause-behind g c).After-index_mut-process) c.deref-2.ensures.value same.1 same.3
-    (c.in_default-accept.ensures.behind behind) c.self.invariant.in_contest
 
 pub invariant_of-self-2 : goal.invariant_of-self-2
 invariant_of-self-2 g c =
@@ -120,7 +104,7 @@ invariant_of-self-2 g c =
     let same = c.in_default-accept.ensures.same in
     let rest = removed-all (IsOwnMail i.config i.worker) i.arrived.items c.args.i c.self.invariant.own_mail in
     inside-arrived c.remove.new.self.items i.got (subst (λ (ms : List (Mail _)). AllOwnMail i.config i.worker ms) (sym c.remove.ensures.items) rest) c.self.invariant.few_got
-    (inside-changed c.self.invariant _ c.accept.new.self (there g (goal.at.invariant_of-self-2 g c).After-index_mut-process) (same.0, same.1) c.deref-2.ensures.value c.enter_accepted.ensures
+    (inside-changed c.self.invariant _ c.accept.new.self (there g (goal.at.invariant_of-self-2 g c).After-index_mut) (same.0, same.1)
     c.self.invariant.sendable c.self.invariant.by_worker c.self.invariant.few_made)
 
 pub returns-clause-done : goal.returns-clause-done
@@ -133,5 +117,5 @@ returns-clause-done g c handlers part s =
     let view = λ (ms : List (Mail _)). record (view_of i) { processes = slice_set i.processes.items c.index-place.result new; arrived = ms } in
     subst (λ (v : HeldWorker _ _ _). IsDone handlers (view c.remove.new.self.items) (local_step (simulation_of handlers v.config) v.worker (step.Accept v.worker c.args.i) part)) c.self.view_is
     (subst (λ (ms : List (Mail _)). IsDone handlers (view ms) (local_step (simulation_of handlers i.config) i.worker (step.Accept i.worker c.args.i) part)) (sym c.remove.ensures.items)
-    (accept-done handlers (view_of i) c.self.invariant.own_processes part (stands_along c.self.view_is handlers part s) c.args.i new mail.0 mail.1.own (there g at.After-index_mut-process) (same.0, same.1)
+    (accept-done handlers (view_of i) c.self.invariant.own_processes part (stands_along c.self.view_is handlers part s) c.args.i new mail.0 mail.1.own (there g at.After-index_mut) (same.0, same.1)
     (λ process st. subst (λ (l : Letter _). ProcessIsDone handlers new (accept_process l process) [] [] 0 0) c.in-Ok.ensures.made (c.in_default-accept.ensures.done handlers process st))))

@@ -14,7 +14,7 @@ use Rattle.vt_kernel.proofs.PartLemmas.{stands_along}
 use Rattle.vt_kernel.proofs.OwnSteps.{refused-at}
 use Rattle.vt_kernel.proofs.LocalLemmas.{view_of, place-within, unknown-refused, unknown-none, found-at, at-found-done, no-serial, own-process, other-process}
 use Rattle.vt_kernel.proofs.PutLemmas.{put-done, put-seen, inside-put}
-use Rattle.vt_kernel.proofs.ReentryLemmas.{process-there, may-enter}
+use Rattle.vt_kernel.proofs.ReentryLemmas.{process-there}
 use Rattle.vt_kernel.proofs.kernel.Kernel.undo.Given.{Over}
 use Rattle.vt_kernel.proofs.kernel.Kernel.undo.Goals.{After-index_mut}
 use Rattle.vt_kernel.proofs.kernel.Kernel.undo.Goals as goal
@@ -38,14 +38,10 @@ returns-in_default-clause-refused g c part s =
     (unknown-refused handlers (view_of i) c.self.invariant.own_processes part (stands_along c.self.view_is handlers part s)
     c.args.lp undo_process i.config.some_worker c.self.invariant.all_there c.in_default.ensures.other)
 
-pub enter-requires : goal.enter-requires
-enter-requires g c =
-    (record { owned = c.type_bounds.send-M-Payload.owned; leaving = c.type_bounds.send-M-Payload.leaving }, may-enter c.self.invariant _ c.in-Some.ensures.own (sym c.index_mut.ensures.value) c.deref.ensures.value)
-
 pub invariant_of-self : goal.invariant_of-self
 invariant_of-self g c =
-    let done = c.undo_into-result in
-    inside-put c.self.inside.outbox done.new.outbox c.new-sent.ensures c.put.ensures c.self.invariant _ done.new.self (there g (goal.at.invariant_of-self g c).After-index_mut) done.ensures.same c.deref.ensures.value c.enter.ensures
+    let done = c.undo-result in
+    inside-put c.self.inside.outbox done.new.outbox c.new-sent.ensures c.put.ensures c.self.invariant _ done.new.self (there g (goal.at.invariant_of-self g c).After-index_mut) done.ensures.same
     done.ensures.within c.self.invariant.few_made
 
 pub returns-clause-done : goal.returns-clause-done
@@ -53,7 +49,7 @@ returns-clause-done g c part s =
     let i = c.self.inside in
     let handlers = g.M.Model.handlers c.args.model.now in
     let own = c.in-Some.ensures.own in
-    let done = c.undo_into-result in
+    let done = c.undo-result in
     let h = stands_along c.self.view_is handlers part s in
     let f = found-at handlers (view_of i) c.self.invariant.own_processes part h own (there g (goal.at.returns-clause-done g c).After-index_mut) in
     let after = record (view_of i) { processes = slice_set i.processes.items c.in-Some.place done.new.self; outbox = c.put.new.self.letters } in
@@ -67,13 +63,13 @@ returns-clause-refused g c part s =
     let held = view_of c.self.inside in
     let own = c.in-Some.ensures.own in
     let f = found-at handlers held c.self.invariant.own_processes part (stands_along c.self.view_is handlers part s) own (there g (goal.at.returns-clause-refused g c).After-index_mut) in
-    subst (λ (v : HeldWorker _ _ _). IfErr c.undo_into-result.result (λ _. local_step (simulation_of handlers v.config) v.worker (step.Undo c.args.lp) part ≡ None)) c.self.view_is
-    (IfErr-weaker c.undo_into-result.result _ _ (λ _ none. refused-at handlers held part c.args.lp c.index_mut.result.now undo_process own.1 f none) (c.undo_into-result.ensures.refused f.process f.stands))
+    subst (λ (v : HeldWorker _ _ _). IfErr c.undo-result.result (λ _. local_step (simulation_of handlers v.config) v.worker (step.Undo c.args.lp) part ≡ None)) c.self.view_is
+    (IfErr-weaker c.undo-result.result _ _ (λ _ none. refused-at handlers held part c.args.lp c.index_mut.result.now undo_process own.1 f none) (c.undo-result.ensures.refused f.process f.stands))
 
 pub returns-clause-kept : goal.returns-clause-kept
 returns-clause-kept g c =
     let i = c.self.inside in
-    let done = c.undo_into-result in
+    let done = c.undo-result in
     let at = there g (goal.at.returns-clause-kept g c).After-index_mut in
     IfErr-weaker done.result _ _ (λ _ kept. (kept.0, put-seen i.outbox done.new.outbox c.new-sent.ensures c.put.ensures (view_of i) _ at refl kept.1 kept.2 refl ∙ c.self.view_is)) done.ensures.kept
 
@@ -86,16 +82,16 @@ returns-in_default-clause-unlawful g c =
 pub returns-clause-lawful : goal.returns-clause-lawful
 returns-clause-lawful g c =
     let at = there g (goal.at.returns-clause-lawful g c).After-index_mut in
-    subst (λ (v : HeldWorker _ _ _). IfOk c.undo_into-result.result (λ _. has_to_undo v c.args.lp ≡ true)) c.self.view_is
-    (IfOk-weaker c.undo_into-result.result _ _ (λ _ is. ap forced (own-process (view_of c.self.inside) c.in-Some.ensures.own at) ∙ is) c.undo_into-result.ensures.lawful)
+    subst (λ (v : HeldWorker _ _ _). IfOk c.undo-result.result (λ _. has_to_undo v c.args.lp ≡ true)) c.self.view_is
+    (IfOk-weaker c.undo-result.result _ _ (λ _ is. ap forced (own-process (view_of c.self.inside) c.in-Some.ensures.own at) ∙ is) c.undo-result.ensures.lawful)
 
 pub returns-clause-unlawful : goal.returns-clause-unlawful
 returns-clause-unlawful g c =
     let at = there g (goal.at.returns-clause-unlawful g c).After-index_mut in
-    subst (λ (v : HeldWorker _ _ _). IfErr c.undo_into-result.result (λ _. has_to_undo v c.args.lp ≡ false)) c.self.view_is
-    (IfErr-weaker c.undo_into-result.result _ _ (λ _ is. ap forced (own-process (view_of c.self.inside) c.in-Some.ensures.own at) ∙ is) c.undo_into-result.ensures.unlawful)
+    subst (λ (v : HeldWorker _ _ _). IfErr c.undo-result.result (λ _. has_to_undo v c.args.lp ≡ false)) c.self.view_is
+    (IfErr-weaker c.undo-result.result _ _ (λ _ is. ap forced (own-process (view_of c.self.inside) c.in-Some.ensures.own at) ∙ is) c.undo-result.ensures.unlawful)
 
 pub returns-clause-others : goal.returns-clause-others
 returns-clause-others g c p apart =
-    other-process (view_of c.self.inside) c.undo_into-result.new.self c.put.new.self.letters c.self.inside.serial p c.in-Some.ensures.own apart
+    other-process (view_of c.self.inside) c.undo-result.new.self c.put.new.self.letters c.self.inside.serial p c.in-Some.ensures.own apart
     ∙ ap (λ (v : HeldWorker _ _ _). process_of v p) c.self.view_is

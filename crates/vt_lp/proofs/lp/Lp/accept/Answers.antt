@@ -10,8 +10,8 @@ use Rattle.vt_model.specs.promise.Settings.{end_of}
 use Rattle.vt_steps.specs.promise.ProcessSteps.{accept_process}
 use Rattle.vt_past.specs.declared.event.PastEvent.{PastEvent}
 use Rattle.vt_lp.specs.inside.Held.{HeldProcess, StandsFor, IsProcessInside}
-use Rattle.vt_lp.specs.inside.Guards.{IsDone, holds_letter, would_lead, TellsSame}
-use Rattle.vt_lp.proofs.AcceptLemmas.{either, ok-is, err-is, accept-none, accepts-message, accepts-anti_message, inside-message, inside-anti_message, message-behind, anti_message-behind}
+use Rattle.vt_lp.specs.inside.Guards.{IsDone, holds_letter}
+use Rattle.vt_lp.proofs.AcceptLemmas.{either, ok-is, err-is, accept-none, accepts-message, accepts-anti_message, inside-message, inside-anti_message}
 use Rattle.vt_lp.proofs.ProcessView.{process_view}
 use Rattle.vt_lp.proofs.lp.Lp.accept.Goals.{in-Plus, in-Plus-2, in-Minus}
 use Rattle.vt_lp.proofs.lp.Lp.accept.Goals as goal
@@ -108,24 +108,4 @@ returns-in-Err-clause-refused g c handlers h s =
           let sign : x.sign ≡ Minus = ap (λ (l : Letter _). l.sign) (sym c.get.ensures) ∙ w.in-Minus.is in
           let there = err-is w.insert_new-put-in-Minus.result c.in-Err.letter (sym w.put-is ∙ c.in-Err.is) w.insert_new-put-in-Minus.ensures.held in
           accept-none handlers held h x (ap (is_held held x) sign ∙ there) stands
-    ]
-
-pub returns-in-Ok-clause-behind : goal.returns-in-Ok-clause-behind
-returns-in-Ok-clause-behind g c later =
-    let inside = c.self.inside in
-    let held = process_view inside.lp inside.config inside.process.state inside.process.number inside.process.stream inside.past inside.pending inside.waiting in
-    let x = c.args.letter in
-    let own : c.get.result.now ≡ x = c.get.ensures in
-    let behind = subst (λ (v : HeldProcess _ _ _). would_lead v.pending v.waiting x.sign x ≡ false) (sym c.self.view_is) later in
-    let told = λ (new : HeldProcess _ _ _) (same : TellsSame held new). subst (λ (v : HeldProcess _ _ _). TellsSame v new) c.self.view_is same in
-    elim c.match-sign.branch [
-      | in-Plus w ↦ absurd (let wrong : Err x ≡ Ok c.in-Ok.field-0 = sym w.put-is ∙ c.in-Ok.is in cc)
-      | in-Plus-2 w ↦
-          let sign : x.sign ≡ Plus = ap (λ (l : Letter _). l.sign) (sym own) ∙ w.in-Plus-2.is in
-          let letters = ok-is w.insert_new-put.result c.in-Ok.field-0 (sym w.put-is ∙ c.in-Ok.is) w.insert_new-put.ensures.letters in
-          subst (λ (v : HeldProcess _ _ _). TellsSame c.args.self.now v) (sym w.self-is) (told _ (message-behind held x w.insert_new-put.new.self sign letters behind))
-      | in-Minus w ↦
-          let sign : x.sign ≡ Minus = ap (λ (l : Letter _). l.sign) (sym own) ∙ w.in-Minus.is in
-          let letters = ok-is w.insert_new-put-in-Minus.result c.in-Ok.field-0 (sym w.put-is ∙ c.in-Ok.is) w.insert_new-put-in-Minus.ensures.letters in
-          subst (λ (v : HeldProcess _ _ _). TellsSame c.args.self.now v) (sym w.self-is) (told _ (anti_message-behind held x w.insert_new-put-in-Minus.new.self sign letters behind))
     ]

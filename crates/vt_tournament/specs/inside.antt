@@ -1,3 +1,0 @@
-pub mod Contest
-pub mod Fields
-pub mod Least
