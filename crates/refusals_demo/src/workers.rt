@@ -60,13 +60,11 @@ fn colours_of(kernel: &Kernel<Hop>) -> [u64; 4] {
     ]
 }
 
-// The process that would execute next, the worker that would be sent to, and the processes whose letters would go home and be accepted.
-fn choices_of(kernel: &Kernel<Hop>) -> [Option<u64>; 4] {
+// The process that would execute next, and the worker that would be sent to.
+fn choices_of(kernel: &Kernel<Hop>) -> [Option<u64>; 2] {
     [
         index_told(kernel.next()),
         index_told(kernel.receiver_from(0)),
-        index_told(kernel.home_for()),
-        index_told(kernel.arrived_for(0)),
     ]
 }
 
@@ -322,7 +320,7 @@ impl Player for Office {
 
 /// A straggler makes process 1 undo once. `process` tells the state, the send number, the place, and how many letters are pending and
 /// waiting; `mail` the serial, how many letters the outbox and what arrived have, how many were sent and got, the red minimum and the
-/// least time; `choices` what the worker would do next; `rows` the ticks and values of records.
+/// least time; `choices` which process would execute next, and whom the worker would send to; `rows` the ticks and values of records.
 const SETTLED: &str = "\
 0 home
 1 home
@@ -359,6 +357,7 @@ const CANCELLED: &str = "\
 1 execute 1
 1 process 1
 1 mail
+1 choices
 1 carry
 1 mail
 1 carry

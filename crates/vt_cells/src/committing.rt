@@ -13,29 +13,18 @@ ghost use Rattle.vt_cells.specs.inside.Calls.{IsBatchOf, AreOfOneWorld, IsHandIn
 
 use std::alloc::Global;
 use vt_book::{Batch, Book};
-use vt_kernel::Kernel;
+use vt_engine::Engine;
 use vt_key::Fault;
 use vt_model::Model as EventModel;
 use vt_steps::Reply;
 
-/// What a kernel would hand in, made ready.
-///
-/// [`Fault::Memory`]: memory was refused.
-pub fn batch_of<M: EventModel>(alloc: Global, kernel: &Kernel<M>) -> Result<Batch, Fault>
-    ensures rows { IsBatchOf kernel.now result }
-    ensures refused { IfErr result (λ fault. fault ≡ Memory) }
-{
-    let rows = kernel.rows(alloc)?;
-    Ok(Batch::of(rows))
-}
-
-/// Hands in to the book what was made ready of the kernel of worker `w`. The kernel keeps what it commits, until
-/// [`Kernel::fossil`].
+/// Hands in to the book the batch that was made ready of the kernel of worker `w`. The kernel keeps what it commits, until
+/// [`Engine::fossil`].
 ///
 /// [`Fault::Closed`]: the book is closed. [`Fault::Memory`]: memory was refused, here or for the batch. After either the
 /// book is as it was.
-pub fn hand_in<M: EventModel>(
-    kernel: &Kernel<M>,
+pub fn hand_in<M: EventModel, const KIND: u8>(
+    kernel: &Engine<M, KIND>,
     w: u32,
     batch: Result<Batch, Fault>,
     book: &mut Book,
@@ -65,9 +54,9 @@ pub fn hand_in<M: EventModel>(
 /// Commit: worker `w` hands the rows of its events below its floor in to the book, and forgets these events.
 ///
 /// [`Fault::Closed`]: the book is closed. [`Fault::Memory`]: memory was refused. After either nothing has changed.
-pub fn commit<M: EventModel>(
+pub fn commit<M: EventModel, const KIND: u8>(
     alloc: Global,
-    kernel: &mut Kernel<M>,
+    kernel: &mut Engine<M, KIND>,
     w: u32,
     book: &mut Book,
 ) -> Result<Reply, Fault>
@@ -78,7 +67,7 @@ pub fn commit<M: EventModel>(
     ensures end { book.new.end ≡ book.old.end }
     ensures kept { book.new.handed_out ≡ book.old.handed_out }
 {
-    let batch = batch_of(alloc, kernel);
+    let batch = kernel.batch(alloc);
     match hand_in(kernel, w, batch, book) {
         Ok(reply) => {
             kernel.fossil();

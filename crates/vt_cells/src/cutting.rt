@@ -15,7 +15,7 @@ ghost use Rattle.vt_board.specs.inside.Calls.{cut_outcome, takes_report, reply_o
 ghost use Rattle.vt_cells.specs.inside.Calls.{IsCellStepOf, answer_of};
 
 use vt_board::{Board, Report};
-use vt_kernel::Kernel;
+use vt_engine::Engine;
 use vt_key::{Fault, When};
 use vt_model::Model as EventModel;
 use vt_steps::Reply;
@@ -24,7 +24,11 @@ use vt_steps::Reply;
 ///
 /// [`Fault::NotLawful`]: it has cut in the open round. [`Fault::Exhausted`]: one more round would be more than 2^63. After
 /// either nothing has changed.
-pub fn cut<M: EventModel>(kernel: &mut Kernel<M>, w: u32, board: &mut Board) -> Result<Reply, Fault>
+pub fn cut<M: EventModel, const KIND: u8>(
+    kernel: &mut Engine<M, KIND>,
+    w: u32,
+    board: &mut Board,
+) -> Result<Reply, Fault>
     requires end { board.old.end ≡ end_of kernel.old.config }
     ensures step { (handlers : Handlers _ _ _) → IsCellStepOf handlers kernel.old.config (step.Cut w) kernel.old kernel.new (on_board board.old.board) (on_board board.new.board) result }
     ensures end { board.new.end ≡ board.old.end }
@@ -40,11 +44,11 @@ pub fn cut<M: EventModel>(kernel: &mut Kernel<M>, w: u32, board: &mut Board) -> 
     }
 }
 
-/// Report: worker `w` reports to the board what [`Kernel::report_values`] gave, and its floor becomes the announced time.
+/// Report: worker `w` reports to the board what [`Engine::report_values`] gave, and its floor becomes the announced time.
 ///
 /// [`Fault::NotLawful`]: the board doesn't take the report. Nothing has changed then.
-pub fn report<M: EventModel>(
-    kernel: &mut Kernel<M>,
+pub fn report<M: EventModel, const KIND: u8>(
+    kernel: &mut Engine<M, KIND>,
     w: u32,
     values: (u64, u64, When),
     board: &mut Board,

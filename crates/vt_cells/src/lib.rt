@@ -5,6 +5,6 @@ mod committing;
 mod cutting;
 mod mailing;
 
-pub use committing::{batch_of, close, commit, hand_in};
+pub use committing::{close, commit, hand_in};
 pub use cutting::{cut, reply_of, report};
 pub use mailing::{fetch, send};

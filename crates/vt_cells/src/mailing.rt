@@ -12,7 +12,7 @@ ghost use Rattle.vt_kernel.specs.inside.Guards.{IsSendRefusal};
 ghost use Rattle.vt_kernel.specs.inside.Steps.{IsTakeRefusal};
 ghost use Rattle.vt_cells.specs.inside.Calls.{IsCellStepOf};
 
-use vt_kernel::Kernel;
+use vt_engine::Engine;
 use vt_key::{Fault, Mail};
 use vt_model::Model as EventModel;
 use vt_steps::Reply;
@@ -21,8 +21,8 @@ use vt_steps::Reply;
 ///
 /// [`Fault::NotLawful`]: `v` is this worker, or the outbox holds no letter for a process of `v`. [`Fault::Exhausted`]: the
 /// count of mail sent would pass 2^63. [`Fault::Memory`]: memory was refused. After each nothing has changed.
-pub fn send<M: EventModel>(
-    kernel: &mut Kernel<M>,
+pub fn send<M: EventModel, const KIND: u8>(
+    kernel: &mut Engine<M, KIND>,
     v: u32,
     inbox: &mut Vec<Mail<M::Payload>>,
 ) -> Result<Reply, Fault>
@@ -41,8 +41,8 @@ pub fn send<M: EventModel>(
 ///
 /// [`Fault::NotLawful`]: mail that arrived before is not accepted yet. [`Fault::Exhausted`]: a count of mail got would pass
 /// 2^63. After either nothing has changed.
-pub fn fetch<M: EventModel>(
-    kernel: &mut Kernel<M>,
+pub fn fetch<M: EventModel, const KIND: u8>(
+    kernel: &mut Engine<M, KIND>,
     inbox: &mut Vec<Mail<M::Payload>>,
 ) -> Result<Reply, Fault>
     requires own { AllOwnMail kernel.old.config kernel.old.worker inbox.old.items }
@@ -52,7 +52,7 @@ pub fn fetch<M: EventModel>(
     ensures reply { IfOk result (λ reply. reply ≡ Done) }
     ensures why { IfErr result (IsTakeRefusal kernel.old.arrived kernel.old.got inbox.old.items) }
 {
-    match kernel.exchange_mail(inbox) {
+    match kernel.fetch(inbox) {
         Ok(()) => Ok(Reply::Done),
         Err(fault) => Err(fault),
     }

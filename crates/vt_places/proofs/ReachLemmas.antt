@@ -1,5 +1,5 @@
--- The kernel of a place is reached by local steps from what the place left: at the opening, after a local step, after one that
--- was refused, after undoing and cancelling, and after a visit.
+-- The kernel of a place is reached by local steps from what the place left: at the opening, after a local step or several, after one
+-- that was refused, after undoing and cancelling, and after a visit.
 use Rattle.std.proofs.Common.{◌≡◌, ℕ, List, [], ◌∷◌, ◌++◌, refl, sym, ◌∙◌, ap, subst, Option, Some, None, Result, Ok, Err}
 use Rattle.std.specs.Option.{option_and_then}
 use Rattle.std.specs.Prelude.{IfOk, IfErr, MatchResult}
@@ -14,6 +14,7 @@ use Rattle.vt_steps.specs.promise.World.{Part, opening_part}
 use Rattle.vt_steps.specs.inside.Cells.{local_step, local_steps}
 use Rattle.vt_kernel.specs.inside.Held.{HeldWorker, StandsFor}
 use Rattle.vt_kernel.specs.inside.Guards.{IsDone, SettlesTo}
+use Rattle.vt_pool.specs.inside.Steps.{IsLedFrom}
 use Rattle.vt_places.specs.declared.view.View.{View}
 use Rattle.vt_places.specs.inside.Kept.{Sat}
 use Rattle.vt_places.specs.inside.Making.{Opens}
@@ -56,6 +57,12 @@ module _ {S P K : Type 0} (handlers : Handlers S P K) (config : Config) (v : Vie
               (subst (λ (w : ℕ). local_steps (simulation_of handlers k.config) w more r.part ≡ Some part) r.worker led);
           stands = stands;
         }
+
+    -- local steps were done
+    pub reaches-led : ((part : Part P) → StandsFor handlers k part → IsLedFrom handlers k part new) → Reaches handlers config v new
+    reaches-led leads =
+        let l = leads r.part r.stands in
+        further l.steps l.after l.led l.stands
 
     -- a local step was done
     pub reaches-done : (step : Step) → ((part : Part P) → StandsFor handlers k part → IsDone handlers new (local_step (simulation_of handlers k.config) k.worker step part)) → Reaches handlers config v new
@@ -125,15 +132,17 @@ module _ {S P K : Type 0} (handlers : Handlers S P K) (config : Config) (v w : V
   reaches-shown Are (Ok x) h = reaches-steps h.2.steps
   reaches-shown Are (Err fault) h = reaches-steps h.0
 
--- at the opening
+-- after local steps from the opening
 pub reaches-opening : {S P K : Type 0} (handlers : Handlers S P K) (config : Config) (w : ℕ) (m : Sat P) (k : HeldWorker S P K) → Opens (simulation_of handlers config) w m
-    → k.worker ≡ w → k.config ≡ config → StandsFor handlers k (opening_part (simulation_of handlers config) 0 w) → Reaches handlers config m.0 k
-reaches-opening handlers config w m k opens worker config_is stands =
+    → k.worker ≡ w → k.config ≡ config → IsLedFrom handlers k (opening_part (simulation_of handlers config) 0 w) k → Reaches handlers config m.0 k
+reaches-opening handlers config w m k opens worker config_is l =
+    let sim = simulation_of handlers config in
     record {
       worker = worker ∙ sym opens.worker;
       config_is = config_is;
-      steps = [];
-      part = opening_part (simulation_of handlers config) 0 w;
-      led = ap Some opens.part;
-      stands = stands;
+      steps = l.steps;
+      part = l.after;
+      led = (λ i. local_steps sim (opens.worker i) l.steps (opens.part i))
+          ∙ subst (λ (x : Config × ℕ). local_steps (simulation_of handlers x.0) x.1 l.steps (opening_part sim 0 w) ≡ Some l.after) (λ i. (config_is i, worker i)) l.led;
+      stands = l.stands;
     }

@@ -1,5 +1,5 @@
 -- A worker at its place is still at work after a local step, and after a call of its station.
-use Rattle.std.proofs.Common.{◌≡◌, ℕ, List, refl, sym, ◌∙◌, subst, Result}
+use Rattle.std.proofs.Common.{◌≡◌, ℕ, List, [], refl, sym, ◌∙◌, subst, Result}
 use Rattle.std.specs.Prelude.{IfOk, IfErr, MatchResult}
 use Rattle.atomic_table.specs.Seated.{TableId}
 use Rattle.vt_key.specs.declared.fault.Fault.{Fault}
@@ -14,25 +14,32 @@ use Rattle.vt_steps.specs.promise.World.{Part, opening_part}
 use Rattle.vt_steps.specs.inside.Cells.{local_step}
 use Rattle.vt_kernel.specs.inside.Held.{HeldWorker, StandsFor}
 use Rattle.vt_kernel.specs.inside.Guards.{IsDone, SettlesTo}
+use Rattle.vt_pool.specs.inside.Steps.{IsLedFrom, LeadsTo}
 use Rattle.vt_places.specs.declared.view.View.{View}
 use Rattle.vt_places.specs.declared.place.Place.{Place}
 use Rattle.vt_places.specs.inside.Told.{place_table, place_view, place_seat}
 use Rattle.vt_places.specs.inside.Making.{IsNew}
 use Rattle.vt_places.specs.inside.AtWork.{AtWork, IsAtWork}
 use Rattle.vt_places.specs.inside.Calls.{Reaches, Closes, Stays, IsRefusedAlone}
-use Rattle.vt_places.proofs.ReachLemmas.{reaches-opening, reaches-either, reaches-settled, reaches-closed, kept-of}
+use Rattle.vt_places.proofs.ReachLemmas.{reaches-opening, reaches-led, reaches-either, reaches-settled, reaches-closed, kept-of}
 
--- with a kernel at the opening, at a place as it was made
-pub opens-at-work : {M S P K : Type 0} {handlers : M → Handlers S P K} {told model : M} {known config : Config} {table : TableId} {w : ℕ} {place : Place P} {kernel : HeldWorker S P K} → (told ≡ model) × (known ≡ config)
-    → IsNew (simulation_of (handlers model) config) table w place → (kernel.worker ≡ w) × (kernel.config ≡ config) → StandsFor (handlers model) kernel (opening_part (simulation_of (handlers model) config) 0 w)
+-- with a kernel after local steps from the opening, at a place as it was made
+pub opens-led : {M S P K : Type 0} {handlers : M → Handlers S P K} {told model : M} {known config : Config} {table : TableId} {w : ℕ} {place : Place P} {kernel : HeldWorker S P K} → (told ≡ model) × (known ≡ config)
+    → IsNew (simulation_of (handlers model) config) table w place → (kernel.worker ≡ w) × (kernel.config ≡ config) → IsLedFrom (handlers model) kernel (opening_part (simulation_of (handlers model) config) 0 w) kernel
     → IsAtWork handlers told config (place_table place) (record { model = model; config = known; table = table; view = place_view place; kernel = kernel })
-opens-at-work {handlers = handlers} {model = model} {config = config} {w = w} {place} {kernel} same new made opening =
+opens-led {handlers = handlers} {model = model} {config = config} {w = w} {place} {kernel} same new made opening =
     record {
       config_is = sym same.1;
       table_is = new.table_is;
       model_is = same.0;
       reaches = subst (λ (c : Config). Reaches (handlers model) c (place_view place) kernel) (sym same.1) (reaches-opening (handlers model) config w (place_seat place) kernel new.opens made.0 made.1 opening);
     }
+
+-- with a kernel at the opening
+pub opens-at-work : {M S P K : Type 0} {handlers : M → Handlers S P K} {told model : M} {known config : Config} {table : TableId} {w : ℕ} {place : Place P} {kernel : HeldWorker S P K} → (told ≡ model) × (known ≡ config)
+    → IsNew (simulation_of (handlers model) config) table w place → (kernel.worker ≡ w) × (kernel.config ≡ config) → StandsFor (handlers model) kernel (opening_part (simulation_of (handlers model) config) 0 w)
+    → IsAtWork handlers told config (place_table place) (record { model = model; config = known; table = table; view = place_view place; kernel = kernel })
+opens-at-work same new made stands = opens-led same new made (record { steps = []; after = _; led = refl; stands = stands })
 
 module _ {M S P K : Type 0} {handlers : M → Handlers S P K} {told : M} {config : Config} {table : TableId} {w : AtWork M S P K} (i : IsAtWork handlers told config table w) where
   -- the kernel, as a call of the station asks for it
@@ -72,6 +79,10 @@ module _ {M S P K : Type 0} {handlers : M → Handlers S P K} {told : M} {config
       subst (λ (o : AtWork M S P K). (r : Reaches (handlers o.model) o.config o.view o.kernel) → IsRefusedAlone (simulation_of (handlers o.model) o.config) o.view r.steps (step o.kernel.worker) result) seen
       (subst (λ (z : M × ℕ). (r : Reaches (handlers z.0) w.config w.view w.kernel) → IsRefusedAlone (simulation_of (handlers z.0) w.config) w.view r.steps (step z.1) result)
       (λ j. (i.model_is j, (sym own ∙ sym i.reaches.worker) j)) alone)
+
+  -- after local steps
+  pub led-at-work : {new : HeldWorker S P K} → LeadsTo (handlers w.model) w.kernel new → IsAtWork handlers told config table (record w { kernel = new })
+  led-at-work {new} leads = stays-at-work refl (reaches-led (handlers w.model) w.config w.view w.kernel new (leads.worker, leads.config) i.reaches leads.steps)
 
   -- after undoing and cancelling at a process
   pub settled-at-work : {new : HeldWorker S P K} → (new.worker ≡ w.kernel.worker) × (new.config ≡ w.kernel.config) → (p count : ℕ)

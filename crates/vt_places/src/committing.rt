@@ -15,8 +15,8 @@ use crate::station::{Lent, Station};
 use std::alloc::Global;
 use std::mem;
 use std::snapshot::Snapshot;
-use vt_cells::{batch_of, close, hand_in};
-use vt_kernel::Kernel;
+use vt_cells::{close, hand_in};
+use vt_engine::Engine;
 use vt_key::Fault;
 use vt_model::{Model as EventModel, Record};
 
@@ -25,11 +25,11 @@ impl<M: EventModel> Station<M> {
     ///
     /// [`Fault::Busy`]: another place has claimed the book. [`Fault::Closed`]: the book is closed. [`Fault::Memory`]:
     /// memory was refused. After each of them the place and the kernel are unchanged.
-    pub fn commit(
+    pub fn commit<const KIND: u8>(
         &self,
         alloc: Global,
         place: &mut Place<M::Payload>,
-        kernel: &mut Kernel<M>,
+        kernel: &mut Engine<M, KIND>,
     ) -> Result<(), Fault>
         requires own { place_table place.old ≡ station_table self.now }
         requires kernel { Reaches (M.handlers (station_model self.now)) (station_config self.now) (place_view place.old) kernel.old }
@@ -43,7 +43,7 @@ impl<M: EventModel> Station<M> {
         ensures alone { RefusesAlone (M.handlers (station_model self.now)) (station_config self.now) (place_view place.old) kernel.old (step.Commit (place_worker place.old)) result }
         ensures ready { Reaches (M.handlers (station_model self.now)) (station_config self.now) (place_view place.new) kernel.new }
     {
-        let batch = batch_of(alloc, kernel);
+        let batch = kernel.batch(alloc);
         let worker = place.worker;
         let seat = &mut place.seat;
         if !self.claim_book(seat) {

@@ -14,7 +14,7 @@ use crate::station::{HOME, Station, Visit};
 use std::snapshot::Snapshot;
 use vt_board::Report;
 use vt_cells::{cut, reply_of, report};
-use vt_kernel::Kernel;
+use vt_engine::Engine;
 use vt_key::Fault;
 use vt_model::Model as EventModel;
 use vt_steps::{Reply, Step};
@@ -37,7 +37,11 @@ impl<M: EventModel> Station<M> {
     /// [`Fault::Busy`]: another place has claimed the board. [`Fault::NotLawful`]: the worker has cut in the open
     /// round. [`Fault::Exhausted`]: one more round would be more than 2^63. After each of them the place and the
     /// kernel are unchanged.
-    pub fn cut(&self, place: &mut Place<M::Payload>, kernel: &mut Kernel<M>) -> Result<(), Fault>
+    pub fn cut<const KIND: u8>(
+        &self,
+        place: &mut Place<M::Payload>,
+        kernel: &mut Engine<M, KIND>,
+    ) -> Result<(), Fault>
         requires own { place_table place.old ≡ station_table self.now }
         requires kernel { Reaches (M.handlers (station_model self.now)) (station_config self.now) (place_view place.old) kernel.old }
         ensures same { (place_table place.new ≡ place_table place.old) × (place_worker place.new ≡ place_worker place.old) }
@@ -74,10 +78,10 @@ impl<M: EventModel> Station<M> {
     /// [`Fault::Busy`]: another place has claimed the board. [`Fault::NotLawful`]: no round is open, some worker
     /// hasn't cut in it, or this worker has reported in this pass. After either the place and the kernel are
     /// unchanged.
-    pub fn report(
+    pub fn report<const KIND: u8>(
         &self,
         place: &mut Place<M::Payload>,
-        kernel: &mut Kernel<M>,
+        kernel: &mut Engine<M, KIND>,
     ) -> Result<Report, Fault>
         requires own { place_table place.old ≡ station_table self.now }
         requires kernel { Reaches (M.handlers (station_model self.now)) (station_config self.now) (place_view place.old) kernel.old }

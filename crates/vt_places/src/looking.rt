@@ -18,7 +18,7 @@ use crate::place::Place;
 use crate::station::{EMPTY, Seat, Station};
 use std::alloc::Global;
 use std::marker::Brand;
-use vt_kernel::Kernel;
+use vt_engine::Engine;
 use vt_key::Fault;
 use vt_model::{Config, Model as EventModel};
 
@@ -34,7 +34,12 @@ impl<P> Place<P> {
 impl<M: EventModel> Station<M> {
     /// Looks at a worker's inbox by one load, and answers whether it is empty. If it is, this look was the worker's fetch: its
     /// steps are put behind all others in the list of steps.
-    pub(crate) fn finds_nothing(&self, seat: &mut Seat<M>, kernel: &Kernel<M>, worker: u32) -> bool
+    pub(crate) fn finds_nothing<const KIND: u8>(
+        &self,
+        seat: &mut Seat<M>,
+        kernel: &Engine<M, KIND>,
+        worker: u32,
+    ) -> bool
         requires table { seat.old.table_id ≡ self.now.table.shared.table_id }
         requires rests { Rests seat.old.me }
         requires worker { seat.old.me.0.worker ≡ worker }
@@ -46,7 +51,7 @@ impl<M: EventModel> Station<M> {
         ensures done { result ≡ true → Visited (M.handlers (station_model self.now)) (station_config self.now) seat.old.me.0 kernel.now (step.Fetch worker) reply.Done kernel.now seat.old.me.0.seen seat.new.me.0 }
         ensures not { result ≡ false → seat.new.me ≡ seat.old.me }
     {
-        self.load::<Brand, Kernel<M>>(seat, worker as usize, kernel) == EMPTY
+        self.load::<Brand, Engine<M, KIND>>(seat, worker as usize, kernel) == EMPTY
     }
 
     /// Reads one word of the table and changes nothing. The read tells contracts that some list of steps leads to a world in
@@ -64,13 +69,13 @@ impl<M: EventModel> Station<M> {
     /// state after the whole sequential run. The book may be open still. The place is unchanged.
     ///
     /// [`Fault::NotLawful`]: the worker's floor isn't the end of the run. [`Fault::Memory`]: it is, and memory was refused.
-    pub fn finals(
+    pub fn finals<const KIND: u8>(
         &self,
         alloc: Global,
         model: &M,
         config: Config,
         place: &mut Place<M::Payload>,
-        kernel: &Kernel<M>,
+        kernel: &Engine<M, KIND>,
     ) -> Result<Vec<u64>, Fault>
         requires told { (station_model self.now ≡ model.now) × (station_config self.now ≡ config) }
         requires own { place_table place.old ≡ station_table self.now }

@@ -8,7 +8,7 @@ ghost use Rattle.vt_places.specs.inside.Told.{station_model, station_config, sta
 ghost use Rattle.vt_places.specs.inside.Making.{AreSlots, IsMaker, Opens, AreNew};
 
 use crate::place::{Place, place_of};
-use crate::rule::{About, Law};
+use crate::rule::About;
 use crate::slot::Slot;
 use crate::station::{Seat, Station, words_of};
 use crate::view::View;

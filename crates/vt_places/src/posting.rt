@@ -16,7 +16,7 @@ use crate::slot::Slot;
 use crate::station::{HOME, Station, Visit, word_of_inbox};
 use std::snapshot::Snapshot;
 use vt_cells::{fetch, send};
-use vt_kernel::Kernel;
+use vt_engine::Engine;
 use vt_key::Fault;
 use vt_model::Model as EventModel;
 use vt_steps::Step;
@@ -31,10 +31,10 @@ impl<M: EventModel> Station<M> {
     /// [`Fault::Exhausted`]: the count of mail sent would pass 2^63. [`Fault::Busy`]: another place has claimed the
     /// inbox. [`Fault::Memory`]: memory was refused. Faults are tested in this order. After each of them the place
     /// and the kernel are unchanged.
-    pub fn post(
+    pub fn post<const KIND: u8>(
         &self,
         place: &mut Place<M::Payload>,
-        kernel: &mut Kernel<M>,
+        kernel: &mut Engine<M, KIND>,
         v: u32,
     ) -> Result<(), Fault>
         requires own { place_table place.old ≡ station_table self.now }
@@ -73,7 +73,11 @@ impl<M: EventModel> Station<M> {
     /// [`Fault::NotLawful`]: mail that arrived before is not accepted yet. [`Fault::Busy`]: another place has claimed
     /// the inbox. [`Fault::Exhausted`]: a count of mail got would pass 2^63. After each of them the place and the
     /// kernel are unchanged.
-    pub fn fetch(&self, place: &mut Place<M::Payload>, kernel: &mut Kernel<M>) -> Result<(), Fault>
+    pub fn fetch<const KIND: u8>(
+        &self,
+        place: &mut Place<M::Payload>,
+        kernel: &mut Engine<M, KIND>,
+    ) -> Result<(), Fault>
         requires own { place_table place.old ≡ station_table self.now }
         requires kernel { Reaches (M.handlers (station_model self.now)) (station_config self.now) (place_view place.old) kernel.old }
         ensures same { (place_table place.new ≡ place_table place.old) × (place_worker place.new ≡ place_worker place.old) }

@@ -25,7 +25,7 @@ use atomic_table::{Shared, Table};
 use std::alloc::Global;
 use std::marker::Brand;
 use std::snapshot::Snapshot;
-use vt_kernel::Kernel;
+use vt_engine::Engine;
 use vt_key::{Fault, Mail, When};
 use vt_model::Model as EventModel;
 use vt_steps::{Reply, Step};
@@ -56,14 +56,14 @@ pub struct Station<M: EventModel> {
 
 /// A step with its answer, and the kernel before the call and after it.
 #[derive(Drop)]
-pub(crate) struct Visit<M: EventModel> {
+pub(crate) struct Visit<M: EventModel, const KIND: u8> {
     pub(crate) step: Step,
     pub(crate) answer: Result<Reply, Fault>,
-    pub(crate) before: Snapshot<Kernel<M>>,
-    pub(crate) left: Snapshot<Kernel<M>>,
+    pub(crate) before: Snapshot<Engine<M, KIND>>,
+    pub(crate) left: Snapshot<Engine<M, KIND>>,
 }
 
-impl<M: EventModel> Visit<M> {
+impl<M: EventModel, const KIND: u8> Visit<M, KIND> {
     /// The answer of a step whose only reply is that it was done.
     pub(crate) fn outcome(self) -> Result<(), Fault>
         requires reply { IfOk self.answer (λ reply. reply ≡ Done) }
@@ -78,9 +78,9 @@ impl<M: EventModel> Visit<M> {
 
 /// A commit of a worker, with the kernel before the call, and the floor of the book after the commit.
 #[derive(Drop)]
-pub(crate) struct Lent<M: EventModel> {
+pub(crate) struct Lent<M: EventModel, const KIND: u8> {
     pub(crate) worker: u32,
-    pub(crate) kernel: Snapshot<Kernel<M>>,
+    pub(crate) kernel: Snapshot<Engine<M, KIND>>,
     pub(crate) seen: When,
 }
 
@@ -201,7 +201,13 @@ impl<M: EventModel> Station<M> {
 
     /// Gives a cell back after a step, done or refused. If it was done, the worker's steps are put behind all others in the list
     /// of steps.
-    pub(crate) fn release_visit(&self, seat: &mut Seat<M>, cell: usize, word: u64, visit: &Visit<M>)
+    pub(crate) fn release_visit<const KIND: u8>(
+        &self,
+        seat: &mut Seat<M>,
+        cell: usize,
+        word: u64,
+        visit: &Visit<M, KIND>,
+    )
         requires table { seat.old.table_id ≡ self.now.table.shared.table_id }
         requires near { cell < cell_count self.now.workers }
         requires free { word ≢ claimed_word }
@@ -215,7 +221,7 @@ impl<M: EventModel> Station<M> {
             (λ _. Unvisited seat.old.me.0 seat.old.me.0.seen seat.new.me.0) }
         ensures ready { let key = self.now.table.shared.key in Reaches (M.handlers key.model.value) key.config seat.new.me.0 visit.now.left.value }
     {
-        self.store::<Brand, Visit<M>>(seat, cell, word, visit);
+        self.store::<Brand, Visit<M, KIND>>(seat, cell, word, visit);
     }
 
     /// Gives a cell back unchanged; a floor of the book may have been shown.
@@ -231,7 +237,12 @@ impl<M: EventModel> Station<M> {
 
     /// Gives the cell of the book back after a commit. The worker's steps are put behind all others in the list of steps,
     /// and what was committed leaves its part; its kernel still keeps it.
-    pub(crate) fn release_commit(&self, seat: &mut Seat<M>, cell: usize, lent: &Lent<M>)
+    pub(crate) fn release_commit<const KIND: u8>(
+        &self,
+        seat: &mut Seat<M>,
+        cell: usize,
+        lent: &Lent<M, KIND>,
+    )
         requires table { seat.old.table_id ≡ self.now.table.shared.table_id }
         requires near { cell < cell_count self.now.workers }
         requires book { cell_at self.now.table.shared.key.config.workers cell ≡ book_cell }
@@ -242,7 +253,7 @@ impl<M: EventModel> Station<M> {
         ensures same { (seat.new.table_id ≡ seat.old.table_id) × (seat.new.id ≡ seat.old.id) × Rests seat.new.me }
         ensures done { let key = self.now.table.shared.key in Commits (M.handlers key.model.value) key.config seat.old.me.0 lent.now.worker lent.now.kernel.value lent.now.seen seat.new.me.0 }
     {
-        self.store::<Brand, Lent<M>>(seat, cell, HOME, lent);
+        self.store::<Brand, Lent<M, KIND>>(seat, cell, HOME, lent);
     }
 
     /// Gives the cell of the book back closed.

@@ -1,6 +1,6 @@
 //! What a place knows.
 
-ghost use Rattle.std.specs.Prelude.{ℕ, List, Option};
+ghost use Rattle.std.specs.Prelude.{ℕ, List};
 ghost use base.Fml.{ftrue};
 ghost use Rattle.vt_key.specs.promise.Times.{Time};
 ghost use Rattle.vt_steps.specs.promise.World.{Part};
@@ -17,9 +17,9 @@ pub(crate) struct View<P> {
     pub(crate) ghost part: { Part P },
     // The worker's steps, with the reply to each.
     pub(crate) ghost mine: { List Made },
-    // The list of all steps, as the last of them left it.
+    // The list of all steps of all workers, up to the last step of this one.
     pub(crate) ghost log: { List Marked },
-    // A floor of the book that this place was shown.
+    // A floor that the book had when this place looked: the book's is no earlier.
     pub(crate) ghost seen: { Time },
     // The cell that the place has claimed, and what the cell held then.
     pub(crate) ghost hand: { Hand P },

@@ -26,9 +26,10 @@ use crate::station::Station;
 use std::alloc::Global;
 use std::marker::Model;
 use vt_board::Report;
+use vt_engine::{Engine, KERNEL};
 use vt_kernel::Kernel;
-use vt_key::{Fault, Stamp, When};
-use vt_model::{Config, Model as EventModel, Out, Record};
+use vt_key::{Fault, Stamp};
+use vt_model::{Config, Model as EventModel, Record};
 
 /// A worker that is driven by hand: a kernel, and the place at a station by which it acts there.
 ///
@@ -41,7 +42,7 @@ pub struct Worker<'a, M: EventModel> {
     model: &'a M,
     config: Config,
     place: Place<M::Payload>,
-    kernel: Kernel<M>,
+    kernel: Engine<M, KERNEL>,
 }
 
 impl<'a, M: EventModel> Model for Worker<'a, M> {
@@ -90,7 +91,7 @@ impl<'a, M: EventModel> Worker<'a, M> {
                 model,
                 config,
                 place,
-                kernel,
+                kernel: Engine::of(kernel),
             }),
             Err(fault) => Err(NotMade { fault, place }),
         }
@@ -138,19 +139,7 @@ impl<'a, M: EventModel> Worker<'a, M> {
         ensures refused { RefusesExecute (M.handlers self.old.model) self.old.kernel lp result }
         ensures kept { IfErr result (λ _. self.new.kernel ≡ self.old.kernel) }
     {
-        let mut out = Out::new(self.config, 0, When::tick(0), 0);
-        self.execute_reusing(lp, &mut out)
-    }
-
-    /// As [`Worker::execute`], with an `out` that the caller lends, as [`Kernel::execute_reusing`] says.
-    pub fn execute_reusing(&mut self, lp: u32, out: &mut Out<M::Payload>) -> Result<(), Fault>
-        ensures place { IsAtSamePlace self.old self.new }
-        ensures done { DoesStep (M.handlers self.old.model) self.old.kernel self.new.kernel (step.Execute lp) result }
-        ensures counted { (part : Part _) → StandsFor (M.handlers self.old.model) self.new.kernel part → IfOk result (λ done. PassesIn (simulation_of (M.handlers self.old.model) self.old.kernel.config) (step.Execute lp) part 0 → ⊥) }
-        ensures refused { RefusesExecute (M.handlers self.old.model) self.old.kernel lp result }
-        ensures kept { IfErr result (λ _. self.new.kernel ≡ self.old.kernel) }
-    {
-        self.kernel.execute_reusing(self.alloc, self.model, lp, out)
+        self.kernel.execute(self.alloc, self.model, lp)
     }
 
     /// Undoes the last past event of process `lp`.
@@ -351,6 +340,6 @@ impl<'a, M: EventModel> Worker<'a, M> {
     pub fn kernel(&self) -> &Kernel<M>
         ensures { result.now ≡ self.now.kernel }
     {
-        &self.kernel
+        self.kernel.kernel()
     }
 }

@@ -15,7 +15,7 @@ use Rattle.vt_model.specs.promise.Simulation.{Triple}
 use Rattle.vt_key.proofs.RisingLemmas.{first-false, second-false}
 use Rattle.vt_pending.proofs.Filters.{filter-insert, filter-insert-other, filter-without, filter-without-other}
 use Rattle.vt_past.specs.declared.event.PastEvent.{PastEvent}
-use Rattle.vt_contest.proofs.Written.{put-there}
+use Rattle.vt_kernel.proofs.Written.{put-there}
 use Rattle.vt_kernel.specs.inside.Held.{AreProcesses}
 use Rattle.vt_kernel.proofs.LocalLemmas.{IsOwnPlace}
 use Rattle.vt_pool.specs.inside.View.{Placed, Stock, is_at, past_at, without_last_at, is_to, letters_to, number_at, process_in, processes_from, processes_in}

@@ -77,7 +77,7 @@ impl<M: EventModel> Pool<M> {
             serial,
             out.sends(),
         );
-        self.counts.count_event(out.sends().len());
+        self.hints.count_event(out.sends().len());
         self.home_left(model);
         Ok(true)
     }

@@ -5,10 +5,10 @@
 
 mod arriving;
 mod committing;
-mod counts;
 mod delivering;
 mod executing;
 mod finding;
+mod hints;
 mod holding;
 mod homing;
 mod kept;

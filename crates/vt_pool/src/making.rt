@@ -11,7 +11,7 @@ ghost use Rattle.vt_lp.specs.inside.Held.{AllWithinRun};
 ghost use Rattle.vt_pool.specs.inside.Inside.{AreSettled};
 ghost use Rattle.vt_pool.specs.inside.Opening.{AreStarted, IsLedFromOpening, StandsForOpening};
 
-use crate::counts::Counts;
+use crate::hints::Hints;
 use crate::kept::Kept;
 use crate::pool::Pool;
 use std::alloc::Global;
@@ -19,7 +19,7 @@ use vt_calendar::Calendar;
 use vt_key::{Fault, When};
 use vt_list::List;
 use vt_logs::Log;
-use vt_lp::{Spare, start};
+use vt_lp::start;
 use vt_model::{Config, Model as EventModel, Process};
 use vt_outbox::Outbox;
 
@@ -76,7 +76,7 @@ fn open<M: EventModel>(alloc: Global, model: &M, config: Config, w: u32) -> Resu
         heard,
         outbox,
         serial,
-        counts: Counts::new(),
+        hints: Hints::new(),
     })
 }
 
@@ -100,11 +100,10 @@ fn start_all<M: EventModel>(
     ensures few { IfOk result (λ v. serial.new ≤ MAX_COUNT) }
     ensures refused { IfErr result (λ fault. fault ≡ Memory) }
 {
-    let mut spare = Spare::new(alloc);
     let mut processes = Vec::new(alloc);
     let mut p = w;
     while p < config.lps {
-        let (process, messages) = match start(alloc, &mut spare, model, config, p, *serial) {
+        let (process, messages) = match start(alloc, model, config, p, *serial) {
             Ok(started) => started,
             Err(_) => return Err(Fault::Memory),
         };

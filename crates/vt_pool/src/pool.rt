@@ -3,7 +3,7 @@
 ghost use Rattle.std.specs.Prelude.{◌≡◌, ◌<◌, ◌/◌};
 ghost use Rattle.vt_pool.specs.inside.Inside.{IsStockInside};
 
-use crate::counts::Counts;
+use crate::hints::Hints;
 use crate::kept::Kept;
 use std::marker::Model;
 use vt_calendar::Calendar;
@@ -33,7 +33,7 @@ pub struct Pool<M: EventModel> {
     pub(crate) heard: Vec<u64>,
     pub(crate) outbox: Outbox<M::Payload>,
     pub(crate) serial: u64,
-    pub(crate) counts: Counts,
+    pub(crate) hints: Hints,
 }
 
 impl<M: EventModel> Model for Pool<M> {

@@ -39,6 +39,15 @@ impl<M: EventModel> Pool<M> {
         let waiting = earlier_if_some(time_of_first(&self.waiting), end);
         unsent.earlier(pending).earlier(waiting)
     }
+
+    /// The time of the least pending event; the end of the run if nothing is pending.
+    pub fn next_time(&mut self) -> When
+        ensures next { result ≡ least_time (end_of self.old.config) self.old.stock.pending }
+        ensures same { self.new ≡ self.old }
+    {
+        let end = self.config.end();
+        earlier_if_some(self.calendar.first_time(), end)
+    }
 }
 
 /// The time of the first letter; None if there is none.

@@ -35,7 +35,7 @@ impl<M: EventModel> Pool<M> {
         };
         let serial = last.serial;
         let sends = self.log.last_sends(place);
-        self.counts.count_undo(sends.len());
+        self.hints.count_undo(sends.len());
         post(
             &mut self.kept,
             &mut self.outbox,

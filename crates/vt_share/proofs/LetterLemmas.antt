@@ -166,6 +166,10 @@ module _ {S P K : Type 0} where
     nothing-pending none =
         no-element (flat_map (λ (q : HeldProcess S P K). q.pending) (processes_in config w stock)) (λ x among. subst (Among x) none (pending-there x among))
 
+    -- the least time of all that is pending
+    pub least-pending : (end : Time) → least_time end stock.pending ≡ least_time end (flat_map (λ (q : HeldProcess S P K). q.pending) (processes_in config w stock))
+    least-pending end = least-same end stock.pending (flat_map (λ (q : HeldProcess S P K). q.pending) (processes_in config w stock)) pending-back pending-there
+
     -- the first pending message is the least of all
     pub first-least : (held : HeldWorker S P K) → held.processes ≡ processes_in config w stock → (letter : Letter P) (later : List (Letter P)) → stock.pending ≡ letter ∷ later → IsLeastPending held letter
     first-least held are letter later first =

@@ -28,7 +28,7 @@ impl<M: EventModel> Share<M> {
     ///
     /// [`Fault::NotLawful`]: mail that arrived before is not accepted yet. [`Fault::Exhausted`]: a count of mail got
     /// would pass 2^63. After either nothing has changed, and the mail stays in the inbox.
-    pub fn exchange_mail(&mut self, mail: &mut Vec<Mail<M::Payload>>) -> Result<(), Fault>
+    pub fn fetch(&mut self, mail: &mut Vec<Mail<M::Payload>>) -> Result<(), Fault>
         requires own { AllOwnMail self.old.config self.old.worker mail.old.items }
         ensures taken { IfOk result (λ _. self.new ≡ held_after_fetch mail.old.items self.old) }
         ensures emptied { IfOk result (λ _. mail.new.items ≡ []) }

@@ -2,16 +2,27 @@
 
 ghost use Rattle.std.specs.Prelude.{◌≡◌, ◌⊎◌, true, false, IfOk, IfErr};
 ghost use Rattle.vt_key.specs.declared.fault.Fault.TheVariants.{Memory, Exhausted};
+ghost use Rattle.vt_model.specs.promise.Settings.{end_of};
+ghost use Rattle.vt_steps.specs.promise.Letters.{least_time};
 ghost use Rattle.vt_steps.specs.promise.World.{Part};
 ghost use Rattle.vt_kernel.specs.inside.Held.{StandsFor};
 ghost use Rattle.vt_pool.specs.inside.Steps.{LeadsTo};
-ghost use Rattle.vt_share.specs.inside.Calls.{HasNothingPending, ExecutesNext, IsNextRefusal};
+ghost use Rattle.vt_share.specs.inside.Calls.{HasNothingPending, all_pending, ExecutesNext, IsNextRefusal};
 
 use crate::share::Share;
-use vt_key::Fault;
+use vt_key::{Fault, When};
 use vt_model::{Model as EventModel, Out};
 
 impl<M: EventModel> Share<M> {
+    /// The time of the event that [`Share::execute_next`] would execute; the end of the run if nothing is pending.
+    pub fn next_time(&mut self) -> When
+        ensures next { result ≡ least_time (end_of self.old.config) (all_pending self.old) }
+        ensures same { self.new ≡ self.old }
+    {
+        self.pool.fits();
+        self.pool.next_time()
+    }
+
     /// Executes the least pending event of all. After that, Home, Undo and Cancel are done as long as one has to be, so that what it sends to the
     /// worker's own processes is there, and no event of a process has to be undone. False, and nothing changes, if nothing is pending.
     ///

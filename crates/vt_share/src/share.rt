@@ -63,9 +63,9 @@ impl<M: EventModel> Share<M> {
 
     /// How many messages events made and how many were taken back, and how many events were undone, since the last call. No contract says more of
     /// them.
-    pub fn take_counts(&mut self) -> (usize, usize, u64)
+    pub fn take_hints(&mut self) -> (usize, usize, u64)
         ensures { self.new ≡ self.old }
     {
-        self.pool.take_counts()
+        self.pool.take_hints()
     }
 }

@@ -112,8 +112,3 @@ module _ {M : Type 0} where
     λ i d below closed. (let no : Some Closed ≡ None = sym closed ∙ unbegun i d below in cc),
     none-yet jobs (recursion_from_All (λ (j : AtJob M). j.outcome ≡ None) jobs unbegun),
   )
-
-  -- a closer was found, so not none closed the book
-  pub closer-there : (jobs : List (AtJob M)) (i : ℕ) → IsClosedAt jobs i → NoneClosed jobs → ⊥
-  closer-there jobs i closed none =
-      none i closed.0 (slice_get_within jobs i closed.0 closed.1) (ap (λ (j : AtJob M). j.outcome) (get_or_from_slice_get jobs i closed.0 closed.0 closed.1) ∙ closed.2)

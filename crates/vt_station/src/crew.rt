@@ -1,6 +1,6 @@
 //! A thread for each worker, and what comes of their work.
 
-ghost use Rattle.std.specs.Prelude.{◌≡◌, ◌<◌, ◌⊎◌, [], true, false, length, None, Some, IfOk, IfErr, IfSome, IfNone, IsOkAnd, MatchResult, Ok, Err, ◌*◌, ◌+◌};
+ghost use Rattle.std.specs.Prelude.{◌≡◌, ◌<◌, ◌⊎◌, [], true, false, length, None, Some, IfOk, IfErr, IfSome, IfNone, IsOkAnd, MatchResult, Ok, Err, ◌+◌};
 ghost use Rattle.vt_key.specs.promise.Times.{Time as TimeValue};
 ghost use Rattle.vt_model.specs.promise.Simulation.{simulation_of};
 ghost use Rattle.vt_model.specs.promise.Sequential.{seq_records, seq_finals};

@@ -13,6 +13,7 @@ ghost use Rattle.vt_station.specs.inside.Turns.{IsPassedOver, IsPartOfTurn, HasE
 
 use crate::bell::Bells;
 use crate::gate::Gate;
+use crate::looks::Looks;
 use crate::pace::Pace;
 use std::alloc::Global;
 use std::hint::spin_loop;
@@ -20,9 +21,9 @@ use std::marker::Model;
 use std::sync::Wait;
 use std::thread::yield_now;
 use vt_board::Report;
-use vt_kernel::Kernel;
+use vt_engine::{Engine, SHARE};
 use vt_key::{Fault, When};
-use vt_model::{Config, Model as EventModel, Out, Record};
+use vt_model::{Config, Model as EventModel, Out, Record, Sent};
 use vt_places::{Place, Station};
 use vt_watch::{Progress, Watch};
 
@@ -32,13 +33,6 @@ const MOST_SPINS: u32 = 32;
 
 /// How many pauses a worker makes before each such try.
 const PAUSES: u32 = 20;
-
-/// The most looks of a worker at its bell before it sleeps. After each look the processor pauses, for 5 to 50 nanoseconds by its kind.
-/// So they take some 20 to 200 microseconds, in which another worker makes a turn or more. It mostly waits for no more than that.
-const MOST_LOOKS: u32 = 4_000;
-
-/// The fewest looks of a worker at its bell before it sleeps. They are few, so that on a busy machine it sleeps nearly at once.
-const LEAST_LOOKS: u32 = 100;
 
 /// How the work of a worker ended.
 #[derive(Clone, Copy)]
@@ -64,19 +58,18 @@ pub enum Wanted {
 
 /// A worker: its kernel, its place at the station, and what it needs to make its turns.
 ///
-/// The type guarantees that the kernel is what local steps make of the worker's part after the place's last visit.
+/// The type guarantees that the kernel is what local steps make of the worker's part after the place's last visit. It holds no [`vt_places::Worker`],
+/// which makes one local step a call, on a kernel of the other kind.
 #[derive(Drop)]
 pub(crate) struct Driver<'a, M: EventModel> {
     config: Config,
     // The number of the worker.
     number: u32,
     place: Place<M::Payload>,
-    kernel: Kernel<M>,
+    kernel: Engine<M, SHARE>,
     station: &'a Station<M>,
     model: &'a M,
     alloc: Global,
-    // The processes that have to be settled, since letters have reached them.
-    touched: Vec<u32>,
     // The worker's floor at its last hand-in.
     handed: When,
     pace: Pace,
@@ -97,8 +90,7 @@ pub(crate) struct Driver<'a, M: EventModel> {
     spins: u32,
     // How many turns it has begun.
     turns: u64,
-    // How often the worker looks at its bell before it sleeps: halved after each sleep, doubled after each wait without one.
-    looks: u32,
+    looks: Looks,
     // How many events were executed, and how many undone, since the worker last told of it.
     executed: u64,
     undone: u64,
@@ -123,7 +115,7 @@ impl<'a, M: EventModel> Driver<'a, M> {
         model: &'a M,
         config: Config,
         place: Place<M::Payload>,
-        kernel: Kernel<M>,
+        kernel: Engine<M, SHARE>,
         bells: &'a Bells,
     ) -> Driver<'a, M>
         requires ready { IsAtWork M.handlers (station_model station.now) config (place_table place) (at_work station.now model.now place kernel) }
@@ -137,7 +129,6 @@ impl<'a, M: EventModel> Driver<'a, M> {
             number: place.worker(),
             place,
             kernel,
-            touched: Vec::new(alloc),
             handed: When::tick(0),
             pace: Pace::new(config.workers),
             bells,
@@ -149,7 +140,7 @@ impl<'a, M: EventModel> Driver<'a, M> {
             idle: false,
             spins: 0,
             turns: 0,
-            looks: MOST_LOOKS,
+            looks: Looks::new(),
             executed: 0,
             undone: 0,
         }
@@ -194,96 +185,38 @@ impl<'a, M: EventModel> Driver<'a, M> {
         self.place
     }
 
-    /// Notes that a letter has reached process `lp`, if it may have to be settled.
-    fn touch(&mut self, lp: u32) -> Result<(), Fault>
-        ensures same { self.new ≡ self.old }
-        ensures lasting { IfErr result IsLasting }
-    {
-        if !self.kernel.is_unsettled(lp) {
-            return Ok(());
-        }
-        let Ok(()) = self.touched.push(lp) else {
-            return Err(Fault::Memory);
-        };
-        Ok(())
-    }
-
-    /// Undoes and cancels at each process that letters have reached, and counts the letters that this takes back.
-    fn settle_touched(&mut self)
-        ensures same { IsAtSameStation self.old self.new }
-    {
-        let before = self.kernel.outbox_len();
-        for i in 0..self.touched.len() {
-            self.settle(i);
-        }
-        self.touched.clear();
-        let after = self.kernel.outbox_len();
-        self.pace.undo(after.saturating_sub(before));
-    }
-
-    /// Undoes and cancels at one of the processes that letters have reached, by its index among them.
-    fn settle(&mut self, i: usize)
-        ensures same { IsAtSameStation self.old self.new }
-    {
-        let Some(lp) = self.touched.get(i) else {
-            return;
-        };
-        let undone = self.kernel.settle(self.model, *lp);
-        self.undone = self.undone.saturating_add(undone);
-    }
-
-    /// Accepts all mail that has arrived, the last letter first.
-    fn accept_all(&mut self) -> Result<(), Fault>
-        ensures part { IsPartOfTurn self.old self.new result }
-    {
-        for i in (0..self.kernel.arrived_len()).rev() {
-            let i = i as u64;
-            let Some(lp) = self.kernel.arrived_for(i) else {
-                continue;
-            };
-            let answer = self.kernel.accept(self.alloc, i);
-            self.is_done(answer)?;
-            self.touch(lp)?;
-        }
-        Ok(())
-    }
-
-    /// Takes all letters of the outbox that are for processes of this worker home.
-    fn home_all(&mut self) -> Result<(), Fault>
-        ensures part { IsPartOfTurn self.old self.new result }
-    {
-        for _ in 0..self.kernel.outbox_len() {
-            let Some(lp) = self.kernel.home_for() else {
-                break;
-            };
-            let answer = self.kernel.home();
-            if !self.is_done(answer)? {
-                break;
-            }
-            self.touch(lp)?;
-        }
-        Ok(())
-    }
-
-    /// Executes events, each time the one of least rank, and returns how many.
+    /// Executes events, each time the one of least rank, and returns how many. It stops at one that isn't before all that this turn has
+    /// sent: what a turn sends home is executed in a later one.
     fn execute_some<G: Gate>(&mut self, gate: &G, turn: u64) -> Result<u32, Fault>
         ensures part { IsPartOfTurn self.old self.new result }
     {
         let most = self.pace.allowed();
         let mut out = Out::new(self.config, 0, When::tick(0), 0);
+        let mut sent = self.config.end();
         for done in 0..most {
-            let Some(lp) = self.kernel.next() else {
-                return Ok(done);
-            };
-            gate.before_execute(self.number, turn);
-            let answer = self
-                .kernel
-                .execute_reusing(self.alloc, self.model, lp, &mut out);
-            if !self.is_done(answer)? {
+            if !self.execute_one(gate, turn, sent, &mut out)? {
                 return Ok(done);
             }
+            sent = least_sent(out.sends(), sent);
         }
         Ok(most)
+    }
+
+    /// Executes the event of least rank, if one is pending before this time, and returns whether one was.
+    fn execute_one<G: Gate>(
+        &mut self,
+        gate: &G,
+        turn: u64,
+        before: When,
+        out: &mut Out<M::Payload>,
+    ) -> Result<bool, Fault>
+        ensures part { IsPartOfTurn self.old self.new result }
+    {
+        if self.kernel.next_time() >= before {
+            return Ok(false);
+        }
+        gate.before_execute(self.number, turn);
+        self.kernel.execute_next(self.model, out)
     }
 
     /// Tries once to send to each worker that there are letters for. It begins with the worker behind this one, so that the
@@ -427,16 +360,30 @@ impl<'a, M: EventModel> Driver<'a, M> {
     {
         self.fetch()?;
         self.accept_all()?;
-        self.settle_touched();
-        self.home_all()?;
-        self.settle_touched();
-        let before = self.kernel.outbox_len();
         let executed = self.execute_some(gate, turn)?;
-        let after = self.kernel.outbox_len();
-        self.pace.make(after.saturating_sub(before));
+        self.note_counts();
         self.executed = self.executed.saturating_add(u64::from(executed));
         self.post_all()?;
         Ok(executed > 0)
+    }
+
+    /// Takes all mail that has arrived to its processes.
+    fn accept_all(&mut self) -> Result<(), Fault>
+        ensures part { IsPartOfTurn self.old self.new result }
+    {
+        let answer = self.kernel.accept_all(self.model);
+        let _ = self.is_done(answer)?;
+        Ok(())
+    }
+
+    /// Notes how many letters were made and how many taken back since this was noted last, and how many events were undone.
+    fn note_counts(&mut self)
+        ensures same { self.new ≡ self.old }
+    {
+        let (made, taken, undone) = self.kernel.take_hints();
+        self.pace.make(made);
+        self.pace.undo(taken);
+        self.undone = self.undone.saturating_add(undone);
     }
 
     /// Fetches the mail of the worker's inbox, if any was put there since the last fetch.
@@ -505,12 +452,9 @@ impl<'a, M: EventModel> Driver<'a, M> {
             yield_now();
             return;
         }
-        let slept = self.bells.wait(rt, self.number, self.heard, self.looks);
-        self.looks = if slept {
-            (self.looks / 2).max(LEAST_LOOKS)
-        } else {
-            self.looks.saturating_mul(2).min(MOST_LOOKS)
-        };
+        let looks = self.looks.count();
+        let slept = self.bells.wait(rt, self.number, self.heard, looks);
+        self.looks.adapt(slept);
     }
 
     /// Begins a turn, if another one may do something.
@@ -550,4 +494,13 @@ impl<'a, M: EventModel> Driver<'a, M> {
         }
         Outcome::Spent
     }
+}
+
+/// The least time of these events, or `least` if none is before it.
+fn least_sent<P: Copy>(sends: &[Sent<P>], least: When) -> When {
+    let mut least = least;
+    for sent in sends {
+        least = least.earlier(sent.key.when());
+    }
+    least
 }

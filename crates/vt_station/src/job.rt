@@ -1,6 +1,6 @@
 //! The work of one worker, in one piece or in several.
 
-ghost use Rattle.std.specs.Prelude.{◌≡◌, ◌<◌, ◌⊎◌, [], None, Some, Ok, Err, length, IfOk, IfErr, IfSome, MatchResult, ◌*◌, ◌+◌};
+ghost use Rattle.std.specs.Prelude.{◌≡◌, ◌<◌, ◌⊎◌, [], None, Some, Ok, Err, length, IfOk, IfErr, IfSome, ◌*◌, ◌+◌};
 ghost use Rattle.vt_key.specs.promise.Times.{Time as TimeValue};
 ghost use Rattle.vt_key.specs.declared.fault.Fault.TheVariants.{Memory, Busy, NotLawful};
 ghost use Rattle.vt_model.specs.promise.Simulation.{simulation_of};
@@ -20,10 +20,11 @@ use crate::gate::Gate;
 use std::alloc::Global;
 use std::marker::Model;
 use std::sync::Wait;
-use vt_kernel::Kernel;
+use vt_engine::Engine;
 use vt_key::Fault;
 use vt_model::{Config, Model as EventModel, Record};
 use vt_places::{Place, Station};
+use vt_share::Share;
 use vt_watch::Watch;
 
 /// What is asked of all workers in a piece of a run, what their executions go through, and what watches them.
@@ -98,8 +99,11 @@ fn begin<'a, M: EventModel>(
 {
     match post {
         Post::Begun(driver) => Ok(driver),
-        Post::New(place) => match Kernel::new(alloc, model, config, worker) {
-            Ok(kernel) => Ok(Driver::new(alloc, station, model, config, place, kernel, bells)),
+        Post::New(place) => match Share::new(alloc, model, config, worker) {
+            Ok(share) => {
+                let engine = Engine::of_share(share);
+                Ok(Driver::new(alloc, station, model, config, place, engine, bells))
+            }
             Err(fault) => Err((Post::New(place), Some(fault))),
         },
         Post::Left(place) => Err((Post::Left(place), None)),

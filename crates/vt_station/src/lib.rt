@@ -6,6 +6,7 @@ mod crew;
 mod driver;
 mod gate;
 mod job;
+mod looks;
 mod pace;
 mod pieces;
 

@@ -21,7 +21,7 @@ use Rattle.vt_steps.specs.inside.Laws.{IsAny}
 use Rattle.vt_steps.specs.inside.StandsFor.{GoesOn}
 use Rattle.vt_kernel.specs.inside.Held.{HeldWorker, AllOwnMail}
 use Rattle.vt_kernel.specs.promise.Refusals.{PassesIn, PassesLimit, IsStepRefusal}
-use Rattle.vt_kernel.proofs.SettlingLemmas.{put-there}
+use Rattle.vt_kernel.proofs.Written.{put-there}
 use Rattle.vt_cells.specs.inside.Calls.{IsCellStepOf, rounds_of, AreOfOneWorld}
 use Rattle.vt_cells.proofs.BookSteps.{close-step}
 use Rattle.vt_cells.proofs.WorldLemmas.{next-put_back, limit-there, refused-there}

@@ -12,7 +12,7 @@ use Rattle.vt_steps.specs.declared.step.Reply.{Reply}
 use Rattle.vt_steps.specs.promise.World.{Board, Book}
 use Rattle.vt_steps.specs.inside.StandsFor.{GoesOn}
 use Rattle.vt_kernel.specs.inside.Held.{HeldWorker, AllOwnMail, IsProcessOf}
-use Rattle.vt_kernel.proofs.SettlingLemmas.{put-there}
+use Rattle.vt_kernel.proofs.Written.{put-there}
 use Rattle.vt_world.specs.inside.Held.{HeldWorld, held_world, world_memory, AreWorkers, AreInboxes, IsWorldInside}
 use Rattle.vt_world.proofs.WorldLemmas.{IsSame, worker-at, workers-changed}
 use Rattle.vt_world.proofs.WorldSteps.{who}

@@ -49,7 +49,7 @@ impl<'m, M: EventModel> InMemory<'m, M> {
         ensures { let sim = simulation_of (M.handlers self.now.model) self.now.config in result ≡ (M.handlers self.now.model).finish lp (after sim lp (events_of lp (whole_run sim))).state }
     {
         let owner = self.config.owner(lp);
-        let Some(state) = self.kernels[owner as usize].state(lp) else {
+        let Some(state) = self.kernels[owner as usize].kernel().state(lp) else {
             unreachable!();
         };
         self.model.finish(lp, state)

@@ -11,7 +11,7 @@ use std::alloc::Global;
 use std::marker::Model;
 use vt_board::Board;
 use vt_book::Book;
-use vt_kernel::Kernel;
+use vt_engine::{Engine, KERNEL};
 use vt_key::{Fault, When};
 use vt_model::{Config, Model as EventModel, Record};
 use vt_steps::{Reply, Step};
@@ -25,7 +25,7 @@ use vt_steps::{Reply, Step};
 pub(crate) struct InMemory<'m, M: EventModel> {
     pub(crate) model: &'m M,
     pub(crate) config: Config,
-    pub(crate) kernels: Vec<Kernel<M>>,
+    pub(crate) kernels: Vec<Engine<M, KERNEL>>,
     pub(crate) inboxes: Vec<Inbox<M::Payload>>,
     pub(crate) board: Board,
     pub(crate) book: Book,

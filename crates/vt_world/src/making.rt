@@ -17,6 +17,7 @@ use crate::world::World;
 use std::alloc::Global;
 use vt_board::Board;
 use vt_book::Book;
+use vt_engine::{Engine, KERNEL};
 use vt_kernel::{Kernel, starts_fit};
 use vt_key::{Fault, Seen};
 use vt_model::{Config, Model as EventModel};
@@ -106,7 +107,7 @@ fn open_workers<M: EventModel>(
     model: &M,
     config: Config,
     serial: u64,
-) -> Result<Vec<Kernel<M>>, Fault>
+) -> Result<Vec<Engine<M, KERNEL>>, Fault>
     requires fits { PassesAtStart (simulation_of (M.handlers model.now) config) serial → ⊥ }
     ensures count { IfOk result (λ v. length v.items ≡ config.workers) }
     ensures workers { IfOk result (λ v. AreWorkers config 0 v.items) }
@@ -116,7 +117,7 @@ fn open_workers<M: EventModel>(
     let mut kernels = Vec::new(alloc);
     for w in 0..config.workers {
         let kernel = Kernel::with_serial(alloc, model, config, w, serial)?;
-        let Ok(()) = kernels.push(kernel) else {
+        let Ok(()) = kernels.push(Engine::of(kernel)) else {
             return Err(Fault::Memory);
         };
     }

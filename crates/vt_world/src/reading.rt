@@ -16,7 +16,8 @@ use crate::in_memory::InMemory;
 use crate::inbox::Inbox;
 use crate::world::World;
 use std::alloc::Global;
-use vt_kernel::{Kernel, least_of_mail};
+use vt_engine::{Engine, KERNEL};
+use vt_kernel::least_of_mail;
 use vt_key::{Event, Fault, When};
 use vt_model::Model as EventModel;
 
@@ -68,18 +69,18 @@ impl<'m, M: EventModel> InMemory<'m, M> {
         ensures refused { IfErr result (λ fault. ((fault ≡ NotLawful) × (self.now.config.lps ≤ lp)) ⊎ ((fault ≡ Memory) × (lp < self.now.config.lps))) }
     {
         let owner = self.config.owner(lp);
-        self.kernels[owner as usize].past_events(alloc, lp)
+        self.kernels[owner as usize].kernel().past_events(alloc, lp)
     }
 }
 
 /// The least time of all letters that these workers have; the end of the run if there are none.
-fn least_of_workers<M: EventModel>(kernels: &[Kernel<M>], end: When) -> When
+fn least_of_workers<M: EventModel>(kernels: &[Engine<M, KERNEL>], end: When) -> When
     requires same_end { All (λ k. (end_of k.config) ≡ end) kernels.now }
     ensures { result ≡ least_time end (flat_map held_letters kernels.now) }
 {
     let mut least = end;
     for kernel in kernels {
-        least = least.earlier(kernel.least());
+        least = least.earlier(kernel.kernel().least());
     }
     least
 }

@@ -1,7 +1,7 @@
 //! What a run tells its gate.
 
 use crate::tests::listener::Listener;
-use crate::tests::running::goes_to_its_end;
+use crate::tests::running::{goes_to_its_end, hops_long};
 use crate::tests::told::holds;
 use std::rt::HostRuntime;
 
@@ -21,7 +21,7 @@ fn two_workers_execute_at_once(rt: HostRuntime) {
 #[test]
 fn turns_begin_at_one_and_never_fall(rt: HostRuntime) {
     let gate = Listener::new(false);
-    goes_to_its_end(&rt, 1, &gate);
+    hops_long(&rt, &gate);
     let (first, last, falls) = gate.turns();
     holds(
         &rt,
@@ -29,5 +29,5 @@ fn turns_begin_at_one_and_never_fall(rt: HostRuntime) {
         "turns rise from 1",
     );
     let (calls, _) = gate.calls();
-    holds(&rt, calls >= 6, "a call for each event");
+    holds(&rt, calls == 202, "a call for each event");
 }

@@ -47,15 +47,23 @@ fn is_whole(run: &Result<Vec<Record>, Stopped>) -> bool {
     }
 }
 
-// The run with two hops on so many workers, with a listener as its gate and its watch.
+// A run of two processes to an end on so many workers, with a listener as its gate and its watch.
 fn ran<R: Abort + AllocGlobal + Threads + Wait + Sync>(
     rt: &R,
+    model: &Hop,
     workers: u32,
+    end: u64,
     listener: &Listener,
 ) -> Result<Vec<Record>, Stopped> {
-    let config = Config::new(2, workers, 10, 0).expect(rt, "config");
-    let model = two_hops(rt);
-    run_workers_watched(rt, rt.alloc(), config, &model, listener, listener, TURNS)
+    let config = Config::new(2, workers, end, 0).expect(rt, "config");
+    run_workers_watched(rt, rt.alloc(), config, model, listener, listener, TURNS)
+}
+
+/// A run on one worker, to which this listens, of two tokens of a hundred hops: 202 events. It goes to its end.
+pub fn hops_long<R: Abort + AllocGlobal + Threads + Wait + Sync>(rt: &R, listener: &Listener) {
+    let model = Hop::new(100, 1, 2, 0).expect(rt, "options");
+    let run = ran(rt, &model, 1, 1_000, listener);
+    holds(rt, run.is_ok(), "a long run");
 }
 
 /// The run on so many workers, to which this listens, goes to its end and has all records.
@@ -64,6 +72,6 @@ pub fn goes_to_its_end<R: Abort + AllocGlobal + Threads + Wait + Sync>(
     workers: u32,
     listener: &Listener,
 ) {
-    let run = ran(rt, workers, listener);
+    let run = ran(rt, &two_hops(rt), workers, 10, listener);
     holds(rt, is_whole(&run), "the records of the run");
 }

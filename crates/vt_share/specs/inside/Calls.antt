@@ -37,14 +37,18 @@ module _ {S P K : Type 0} where
     pub others : new.arrived ≡ drop accepted old.arrived
     pub is_held : list_any (has_stamped mail.letter.sign (letter_rank mail.letter).stamp) new.processes ≡ true
 
+  -- the messages that are pending at processes of the worker
+  abbrev pub all_pending : HeldWorker S P K → List (Letter P)
+  all_pending held = flat_map (λ process. process.pending) held.processes
+
   -- a message is pending at a process of the worker, and none that is pending at one is before it
   pub record IsLeastPending (held : HeldWorker S P K) (letter : Letter P) : Type 0 where
-    pub there : Among letter (flat_map (λ process. process.pending) held.processes)
-    pub least : (other : Letter P) → Among other (flat_map (λ process. process.pending) held.processes) → rank_before (letter_rank other) (letter_rank letter) ≡ false
+    pub there : Among letter (all_pending held)
+    pub least : (other : Letter P) → Among other (all_pending held) → rank_before (letter_rank other) (letter_rank letter) ≡ false
 
   -- no message is pending at a process of the worker
   abbrev pub HasNothingPending : HeldWorker S P K → Type 0
-  HasNothingPending held = flat_map (λ process. process.pending) held.processes ≡ []
+  HasNothingPending held = all_pending held ≡ []
 
 module _ {S P K : Type 0} (handlers : Handlers S P K) where
   -- steps of a worker lead on from where this mail has arrived; so many letters of its front are accepted then

@@ -5,7 +5,6 @@ use Rattle.vt_key.specs.declared.fault.Fault.{Fault}
 use Rattle.vt_key.specs.declared.fault.Fault.TheVariants.{Busy, TurnsSpent}
 use Rattle.vt_model.specs.declared.settings.Config.{Config}
 use Rattle.vt_model.specs.declared.rows.Record.{Record}
-pub use Rattle.vt_places.specs.inside.Calls.{IsHandOutRefusal}
 use Rattle.vt_station.specs.promise.Turns.{IsLasting}
 
 -- why a run stops before its end: memory was refused, a count would pass its limit, or all turns were made; or another worker's

@@ -18,7 +18,7 @@ loop-kernel-preserved g c =
     let more : take (i + 1) all ≡ take i all ++ k ∷ [] =
     take_more all i k c.loop-kernel-test.true ∙ ap (λ (x : HeldWorker _ _ _). take i all ++ x ∷ []) (sym c.kernel-item.is) in
     let same_end : (end_of k.config) ≡ end = ap (λ (x : HeldWorker _ _ _). (end_of x.config)) c.kernel-item.is ∙ c.requires.same_end i k c.loop-kernel-test.true in
-    let here : c.least.result ≡ least_time end (held_letters k) = c.least.ensures ∙ ap (λ (t : Time). least_time t (held_letters k)) same_end in
+    let here : c.least.result ≡ least_time end (held_letters k) = c.least.ensures ∙ ap (λ (x : HeldWorker _ _ _). least_time (end_of x.config) (held_letters x)) c.kernel.ensures ∙ ap (λ (t : Time). least_time t (held_letters k)) same_end in
     c.earlier-least.ensures
     ∙ (λ j. earlier (c.loop-kernel.invariant j) (here j))
     ∙ sym (least-more end held_letters (take i all) k)

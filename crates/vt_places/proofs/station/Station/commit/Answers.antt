@@ -1,4 +1,4 @@
-use Rattle.std.proofs.Common.{◌≡◌, ℕ, Ok, Err, refl, sym, ap, subst, ◌∙◌}
+use Rattle.std.proofs.Common.{◌≡◌, ℕ, Ok, Err, refl, sym, ap, subst, ◌∙◌, arith, rules}
 use Rattle.vt_model.specs.declared.settings.Config.{Config}
 use Rattle.vt_model.specs.promise.Simulation.{simulation_of}
 use Rattle.vt_model.specs.promise.Settings.{end_of}
@@ -18,25 +18,43 @@ use Rattle.vt_places.proofs.RefusalLemmas as refusal
 use Rattle.vt_places.proofs.PlaceLemmas.{refused, released}
 use Rattle.vt_places.proofs.station.Station.commit.Goals as goal
 
-pub hand_in-requires-clause-reached : goal.hand_in-requires-clause-reached
-hand_in-requires-clause-reached g c κs within =
+pub hand_in-requires-after_bounds : goal.hand_in-requires-after_bounds
+hand_in-requires-after_bounds g c κs within =
     let H = g.M.Model.handlers c.args.self.now.table.shared.key.model.value in
     let t = c.if-not-claim_book.ensures.claimed refl in
-    (H, subst (AreOfOneWorld H c.args.kernel.now) (book-is t c.slot_mut-held.ensures.value c.in-Book.is) (one-world t c.requires.kernel))
+    (omega arith, (search rules, (search rules, (search rules, (H, subst (AreOfOneWorld H c.args.kernel.now) (book-is t c.slot_mut-held.ensures.value c.in-Book.is) (one-world t c.requires.kernel))))))
 
-pub release_commit-requires-clause-held : goal.release_commit-requires-clause-held
-release_commit-requires-clause-held g c κs within =
+pub release_commit-requires-after_bounds : goal.release_commit-requires-after_bounds
+release_commit-requires-after_bounds g c κs within =
     let key = c.args.self.now.table.shared.key in
     let H = g.M.Model.handlers key.model.value in
     let t = c.if-not-claim_book.ensures.claimed refl in
     let old = c.in-Book.book in
     let new = c.hand_in.new.book in
     let ok = c.in-Ok.ensures in (
-      in_book old.book,
-      in_book new.book,
-      book-kept t c.slot_mut-held.ensures.value c.in-Book.is new refl ok.end ok.kept,
-      subst (λ (x : Config × HeldWorker _ _ _). CommitsTo H x.0 c.args.place.now.worker x.1 (in_book old.book) (in_book new.book)) (λ i. (c.requires.kernel.config_is i, sym c.of.ensures i)) (ok.step H).done.1,
-      c.floor-seen.ensures ∙ ap (λ e. book_floor e new.book) (ok.end ∙ book-ends t c.slot_mut-held.ensures.value c.in-Book.is),
+      omega arith,
+      (
+        search rules,
+        (
+          search rules,
+          (
+            search rules,
+            (
+              search rules,
+              (
+                (
+                  in_book old.book,
+                  in_book new.book,
+                  book-kept t c.slot_mut-held.ensures.value c.in-Book.is new refl ok.end ok.kept,
+                  subst (λ (x : Config × HeldWorker _ _ _). CommitsTo H x.0 c.args.place.now.worker x.1 (in_book old.book) (in_book new.book)) (λ i. (c.requires.kernel.config_is i, sym c.of.ensures i)) (ok.step H).done.1,
+                  c.floor-seen.ensures ∙ ap (λ e. book_floor e new.book) (ok.end ∙ book-ends t c.slot_mut-held.ensures.value c.in-Book.is),
+                ),
+                search rules,
+              ),
+            ),
+          ),
+        ),
+      ),
     )
 
 pub release_unchanged-requires-clause-held : goal.release_unchanged-requires-clause-held

@@ -1,4 +1,4 @@
-use Rattle.std.proofs.Common.{◌≡◌, ℕ, refl, sym, ap, subst, ◌∙◌}
+use Rattle.std.proofs.Common.{◌≡◌, ℕ, refl, sym, ap, subst, ◌∙◌, arith, rules}
 use Rattle.std.proofs.lemmas.Result.{IfErr-weaker}
 use Rattle.vt_model.specs.declared.settings.Config.{Config}
 use Rattle.vt_model.specs.promise.Simulation.{simulation_of}
@@ -20,19 +20,37 @@ use Rattle.vt_places.proofs.station.Station.cut.Goals as goal
 
 pub cut-requires-clause-end : goal.cut-requires-clause-end
 cut-requires-clause-end g c κs within =
-    found-right (c.if-not-claim_board.ensures.claimed refl).holds c.slot_mut-held.ensures.value c.in-Board.is ∙ ap (λ (f : Config). end_of f) (sym c.requires.kernel.config_is)
+    (omega arith, found-right (c.if-not-claim_board.ensures.claimed refl).holds c.slot_mut-held.ensures.value c.in-Board.is ∙ ap (λ (f : Config). end_of f) (sym c.requires.kernel.config_is))
 
-pub release_visit-requires-clause-held : goal.release_visit-requires-clause-held
-release_visit-requires-clause-held g c κs within =
+pub release_visit-requires-after_bounds : goal.release_visit-requires-after_bounds
+release_visit-requires-after_bounds g c κs within =
     let H = g.M.Model.handlers c.args.self.now.table.shared.key.model.value in
     let holds = (c.if-not-claim_board.ensures.claimed refl).holds in
     let new = c.cut.new.board in (
-      on_board c.in-Board.board.board,
-      on_board new.board,
-      puts holds c.slot_mut-held.ensures.value c.in-Board.is (slot.Board new) refl (c.cut.ensures.end ∙ found-right holds c.slot_mut-held.ensures.value c.in-Board.is),
-      (λ e. home-not_empty e),
-      subst (λ (x : Config × HeldWorker _ _ _ × HeldWorker _ _ _). IsCellStepOf H x.0 (Cut c.args.place.now.worker) x.1 x.2 (on_board c.in-Board.board.board) (on_board new.board) c.cut.result)
-          (λ i. (c.requires.kernel.config_is i, sym c.of-before.ensures i, sym c.of.ensures i)) (c.cut.ensures.step H),
+      omega arith,
+      (
+        search rules,
+        (
+          search rules,
+          (
+            search rules,
+            (
+              search rules,
+              (
+                (
+                  on_board c.in-Board.board.board,
+                  on_board new.board,
+                  puts holds c.slot_mut-held.ensures.value c.in-Board.is (slot.Board new) refl (c.cut.ensures.end ∙ found-right holds c.slot_mut-held.ensures.value c.in-Board.is),
+                  (λ e. home-not_empty e),
+                  subst (λ (x : Config × HeldWorker _ _ _ × HeldWorker _ _ _). IsCellStepOf H x.0 (Cut c.args.place.now.worker) x.1 x.2 (on_board c.in-Board.board.board) (on_board new.board) c.cut.result)
+                      (λ i. (c.requires.kernel.config_is i, sym c.of-before.ensures i, sym c.of.ensures i)) (c.cut.ensures.step H),
+                ),
+                search rules,
+              ),
+            ),
+          ),
+        ),
+      ),
     )
 
 pub returns-clause-done : goal.returns-clause-done

@@ -1,4 +1,4 @@
-use Rattle.std.proofs.Common.{inl, inr, ℕ, refl, sym, ap, subst, ◌∙◌}
+use Rattle.std.proofs.Common.{inl, inr, ℕ, refl, sym, ap, subst, ◌∙◌, arith, rules}
 use Rattle.std.proofs.lemmas.Result.{IfErr-weaker}
 use Rattle.vt_model.specs.declared.settings.Config.{Config}
 use Rattle.vt_model.specs.promise.Simulation.{simulation_of}
@@ -21,22 +21,40 @@ pub fetch-requires-clause-own : goal.fetch-requires-clause-own
 fetch-requires-clause-own g c κs within =
     let r = c.requires.kernel in
     let box = took-own c.args.place.now (c.if-finds_nothing.ensures.not refl) (c.if-not-claim.ensures.claimed refl) in
-    subst (λ (x : ℕ × Config). AllOwnMail x.1 x.0 c.in-Inbox.mails.items) (λ i. (sym (r.worker ∙ c.args.place.now.own) i, sym r.config_is i)) (found-right box.holds c.slot_mut-held.ensures.value c.in-Inbox.is)
+    (omega arith, subst (λ (x : ℕ × Config). AllOwnMail x.1 x.0 c.in-Inbox.mails.items) (λ i. (sym (r.worker ∙ c.args.place.now.own) i, sym r.config_is i)) (found-right box.holds c.slot_mut-held.ensures.value c.in-Inbox.is))
 
-pub release_visit-requires-clause-held : goal.release_visit-requires-clause-held
-release_visit-requires-clause-held g c κs within =
+pub release_visit-requires-after_bounds : goal.release_visit-requires-after_bounds
+release_visit-requires-after_bounds g c κs within =
     let H = g.M.Model.handlers c.args.self.now.table.shared.key.model.value in
     let r = c.requires.kernel in
     let is = r.worker ∙ c.args.place.now.own in
     let box = took-own c.args.place.now (c.if-finds_nothing.ensures.not refl) (c.if-not-claim.ensures.claimed refl) in
     let old = c.in-Inbox.mails in
     let new = c.fetch.new.inbox in (
-      in_inbox old.items,
-      in_inbox new.items,
-      puts box.holds c.slot_mut-held.ensures.value c.in-Inbox.is (Inbox new) refl (subst (λ (x : ℕ × Config). AllOwnMail x.1 x.0 new.items) (λ i. (is i, r.config_is i)) c.fetch.ensures.own),
-      (λ e. ap in_inbox (c.word_of_inbox-word.ensures.empty e)),
-      subst (λ (x : Config × ℕ × HeldWorker _ _ _ × HeldWorker _ _ _). IsCellStepOf H x.0 (Fetch x.1) x.2 x.3 (in_inbox old.items) (in_inbox new.items) c.fetch.result)
-          (λ i. (r.config_is i, is i, sym c.of-before.ensures i, sym c.of.ensures i)) (c.fetch.ensures.step H),
+      omega arith,
+      (
+        search rules,
+        (
+          search rules,
+          (
+            search rules,
+            (
+              search rules,
+              (
+                (
+                  in_inbox old.items,
+                  in_inbox new.items,
+                  puts box.holds c.slot_mut-held.ensures.value c.in-Inbox.is (Inbox new) refl (subst (λ (x : ℕ × Config). AllOwnMail x.1 x.0 new.items) (λ i. (is i, r.config_is i)) c.fetch.ensures.own),
+                  (λ e. ap in_inbox (c.word_of_inbox-word.ensures.empty e)),
+                  subst (λ (x : Config × ℕ × HeldWorker _ _ _ × HeldWorker _ _ _). IsCellStepOf H x.0 (Fetch x.1) x.2 x.3 (in_inbox old.items) (in_inbox new.items) c.fetch.result)
+                      (λ i. (r.config_is i, is i, sym c.of-before.ensures i, sym c.of.ensures i)) (c.fetch.ensures.step H),
+                ),
+                search rules,
+              ),
+            ),
+          ),
+        ),
+      ),
     )
 
 pub returns-clause-done : goal.returns-clause-done

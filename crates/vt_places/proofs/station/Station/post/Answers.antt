@@ -1,4 +1,4 @@
-use Rattle.std.proofs.Common.{ℕ, refl, sym, subst, ◌∙◌, arith}
+use Rattle.std.proofs.Common.{ℕ, refl, sym, subst, ◌∙◌, arith, rules}
 use Rattle.vt_model.specs.declared.settings.Config.{Config}
 use Rattle.vt_steps.specs.declared.step.Step.TheVariants.{Send}
 use Rattle.vt_steps.specs.declared.step.Reply.TheVariants.{Done}
@@ -26,19 +26,37 @@ unreachable-requires g c =
     let box = took-inbox (c.if-not-claim.ensures.claimed refl) c.args.place.now.rests (sent-within r c.args.v (c.in_ok-may_send.ensures.lawful H r.part r.stands).0) in
     is-inbox c.slot_mut-held.result.now box.0 (found-is box.1 c.slot_mut-held.ensures.value refl) c.in_default.not-Inbox
 
-pub release_visit-requires-clause-held : goal.release_visit-requires-clause-held
-release_visit-requires-clause-held g c κs within =
+pub release_visit-requires-after_bounds : goal.release_visit-requires-after_bounds
+release_visit-requires-after_bounds g c κs within =
     let H = g.M.Model.handlers c.args.self.now.table.shared.key.model.value in
     let r = c.requires.kernel in
     let h = (took-inbox (c.if-not-claim.ensures.claimed refl) c.args.place.now.rests (sent-within r c.args.v (c.in_ok-may_send.ensures.lawful H r.part r.stands).0)).1 in
     let old = c.in-Inbox.mails in
     let new = c.send.new.inbox in (
-      in_inbox old.items,
-      in_inbox new.items,
-      puts h c.slot_mut-held.ensures.value c.in-Inbox.is (Inbox new) refl (subst (λ (f : Config). AllOwnMail f c.args.v old.items → AllOwnMail f c.args.v new.items) r.config_is c.send.ensures.own (found-right h c.slot_mut-held.ensures.value c.in-Inbox.is)),
-      (λ e. home-not_empty e),
-      subst (λ (x : Config × ℕ × HeldWorker _ _ _ × HeldWorker _ _ _). IsCellStepOf H x.0 (Send x.1 c.args.v) x.2 x.3 (in_inbox old.items) (in_inbox new.items) c.send.result)
-          (λ i. (r.config_is i, (r.worker ∙ c.args.place.now.own) i, sym c.of-before.ensures i, sym c.of.ensures i)) (c.send.ensures.step H),
+      omega arith,
+      (
+        search rules,
+        (
+          search rules,
+          (
+            search rules,
+            (
+              search rules,
+              (
+                (
+                  in_inbox old.items,
+                  in_inbox new.items,
+                  puts h c.slot_mut-held.ensures.value c.in-Inbox.is (Inbox new) refl (subst (λ (f : Config). AllOwnMail f c.args.v old.items → AllOwnMail f c.args.v new.items) r.config_is c.send.ensures.own (found-right h c.slot_mut-held.ensures.value c.in-Inbox.is)),
+                  (λ e. home-not_empty e),
+                  subst (λ (x : Config × ℕ × HeldWorker _ _ _ × HeldWorker _ _ _). IsCellStepOf H x.0 (Send x.1 c.args.v) x.2 x.3 (in_inbox old.items) (in_inbox new.items) c.send.result)
+                      (λ i. (r.config_is i, (r.worker ∙ c.args.place.now.own) i, sym c.of-before.ensures i, sym c.of.ensures i)) (c.send.ensures.step H),
+                ),
+                search rules,
+              ),
+            ),
+          ),
+        ),
+      ),
     )
 
 pub returns-clause-done : goal.returns-clause-done

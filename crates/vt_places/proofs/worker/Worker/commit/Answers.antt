@@ -1,4 +1,4 @@
-use Rattle.std.proofs.Common.{◌≡◌, ℕ, sym, ◌∙◌, subst, MatchResult}
+use Rattle.std.proofs.Common.{◌≡◌, ℕ, sym, ◌∙◌, subst, MatchResult, arith, rules}
 use Rattle.vt_key.specs.promise.Times.{Time}
 use Rattle.vt_model.specs.promise.Simulation.{simulation_of}
 use Rattle.vt_model.specs.promise.Settings.{end_of}
@@ -12,8 +12,8 @@ use Rattle.vt_places.proofs.worker.Worker.commit.Goals as goal
 pub invariant_of-self : goal.invariant_of-self
 invariant_of-self g c = called-at-work c.self.invariant c.commit.ensures.same.0 c.commit.ensures.ready
 
-pub commit-requires-clause-kernel : goal.commit-requires-clause-kernel
-commit-requires-clause-kernel g c κs within = kernel-ready c.self.invariant
+pub commit-requires-after_bounds : goal.commit-requires-after_bounds
+commit-requires-after_bounds g c κs within = (omega arith, (search rules, kernel-ready c.self.invariant))
 
 pub returns-clause-done : goal.returns-clause-done
 returns-clause-done g c =

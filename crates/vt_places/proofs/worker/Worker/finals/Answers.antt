@@ -1,4 +1,4 @@
-use Rattle.std.proofs.Common.{◌≡◌, subst}
+use Rattle.std.proofs.Common.{◌≡◌, subst, arith, rules}
 use Rattle.std.specs.Prelude.{IfOk}
 use Rattle.vt_model.specs.promise.Simulation.{simulation_of}
 use Rattle.vt_steps.specs.inside.Finals.{worker_finals}
@@ -6,8 +6,8 @@ use Rattle.vt_places.specs.inside.AtWork.{AtWork}
 use Rattle.vt_places.proofs.WorkLemmas.{kernel-ready, read-at-work, finals-at-work}
 use Rattle.vt_places.proofs.worker.Worker.finals.Goals as goal
 
-pub finals-requires-clause-kernel : goal.finals-requires-clause-kernel
-finals-requires-clause-kernel g c κs within = kernel-ready c.self.invariant
+pub finals-requires-after_bounds : goal.finals-requires-after_bounds
+finals-requires-after_bounds g c κs within = (omega arith, (search rules, (search rules, kernel-ready c.self.invariant)))
 
 pub invariant_of-self : goal.invariant_of-self
 invariant_of-self g c = read-at-work c.self.invariant c.finals.ensures.same.0 c.finals.ensures.unchanged

@@ -1,8 +1,9 @@
+use Rattle.std.proofs.Common.{arith, rules}
 use Rattle.vt_places.proofs.WorkLemmas.{kernel-ready, called-at-work}
 use Rattle.vt_station.proofs.driver.Driver.fetch.Goals as goal
 
-pub fetch-answer-requires-clause-kernel : goal.fetch-answer-requires-clause-kernel
-fetch-answer-requires-clause-kernel g c κs within = kernel-ready c.self.invariant
+pub fetch-answer-requires-after_bounds : goal.fetch-answer-requires-after_bounds
+fetch-answer-requires-after_bounds g c κs within = (omega arith, (search rules, kernel-ready c.self.invariant))
 
 pub invariant_of-self : goal.invariant_of-self
 invariant_of-self g c = called-at-work c.self.invariant c.fetch-answer.ensures.same.0 c.fetch-answer.ensures.ready

@@ -1,8 +1,9 @@
+use Rattle.std.proofs.Common.{arith, rules}
 use Rattle.vt_places.proofs.WorkLemmas.{kernel-ready, called-at-work}
 use Rattle.vt_station.proofs.driver.Driver.post_between.Goals as goal
 
-pub post-answer-requires-clause-kernel : goal.post-answer-requires-clause-kernel
-post-answer-requires-clause-kernel g c κs within = kernel-ready c.self.invariant
+pub post-answer-requires-after_bounds : goal.post-answer-requires-after_bounds
+post-answer-requires-after_bounds g c κs within = (omega arith, (search rules, kernel-ready c.self.invariant))
 
 pub invariant_of-self : goal.invariant_of-self
 invariant_of-self g c = called-at-work c.self.invariant c.post-answer.ensures.same.0 c.post-answer.ensures.ready

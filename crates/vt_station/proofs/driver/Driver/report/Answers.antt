@@ -1,8 +1,9 @@
+use Rattle.std.proofs.Common.{arith, rules}
 use Rattle.vt_places.proofs.WorkLemmas.{kernel-ready, called-at-work}
 use Rattle.vt_station.proofs.driver.Driver.report.Goals as goal
 
-pub report-requires-clause-kernel : goal.report-requires-clause-kernel
-report-requires-clause-kernel g c κs within = kernel-ready c.self.invariant
+pub report-requires-after_bounds : goal.report-requires-after_bounds
+report-requires-after_bounds g c κs within = (omega arith, (search rules, kernel-ready c.self.invariant))
 
 pub invariant_of-self : goal.invariant_of-self
 invariant_of-self g c = called-at-work c.self.invariant c.report.ensures.same.0 c.report.ensures.ready

@@ -1,4 +1,4 @@
-use Rattle.std.proofs.Common.{◌∙◌, ap, sym, refl}
+use Rattle.std.proofs.Common.{◌∙◌, ap, sym, refl, arith}
 use Rattle.std.proofs.Math.Nat.{ℕ_set}
 use Rattle.vt_key.specs.declared.fault.Fault.TheVariants.{NotLawful, Closed}
 use Rattle.vt_model.specs.declared.settings.Config.{Config}
@@ -19,19 +19,12 @@ pub returns-then-w-self : goal.returns-then-w-self
 returns-then-w-self g c =
     step-left g.M.Model.handlers c.self.view_is (Commit c.args.w) NotLawful (of-nobody c.self.invariant c.if-w-self.true (Commit c.args.w) refl (sym c.is_closed.ensures ∙ c.if-is_closed.false))
 
-pub commit-requires-clause-worker : goal.commit-requires-clause-worker
-commit-requires-clause-worker g c κs within = (who c.self.invariant (worker-there c.self.invariant c.if-w-self.false c.index_mut.ensures.value)).0
-
-pub commit-requires-clause-end : goal.commit-requires-clause-end
-commit-requires-clause-end g c κs within =
-    let is = who c.self.invariant (worker-there c.self.invariant c.if-w-self.false c.index_mut.ensures.value) in
-    c.self.invariant.same_book_end ∙ ap (λ (f : Config). end_of f) (sym is.1)
-
-pub commit-requires-clause-reached : goal.commit-requires-clause-reached
-commit-requires-clause-reached g c κs within =
+pub commit-requires-after_bounds : goal.commit-requires-after_bounds
+commit-requires-after_bounds g c κs within =
     let m = c.self.inside.model.now in
     let lawful = lawful_of (g.M.Model.handlers m) c.self.inside.config (g.met.M.Model.start_within m) (g.met.M.Model.forward_within m) in
-    (g.M.Model.handlers m, one-world g.M.Model.handlers c.self.invariant lawful c.args.w (worker-there c.self.invariant c.if-w-self.false c.index_mut.ensures.value))
+    let at = worker-there c.self.invariant c.if-w-self.false c.index_mut.ensures.value in
+    let is = who c.self.invariant at in (omega arith, (is.0, (c.self.invariant.same_book_end ∙ ap (λ (f : Config). end_of f) (sym is.1), (g.M.Model.handlers m, one-world g.M.Model.handlers c.self.invariant lawful c.args.w at))))
 
 pub invariant_of-self : goal.invariant_of-self
 invariant_of-self g c =

@@ -1,4 +1,4 @@
-use Rattle.std.proofs.Common.{◌∙◌, ap, sym, refl}
+use Rattle.std.proofs.Common.{◌∙◌, ap, sym, refl, arith}
 use Rattle.vt_key.specs.declared.fault.Fault.TheVariants.{NotLawful}
 use Rattle.vt_steps.specs.declared.step.Step.TheVariants.{Cut}
 use Rattle.vt_model.specs.declared.settings.Config.{Config}
@@ -15,7 +15,7 @@ returns-then-w-self g c = step-left g.M.Model.handlers c.self.view_is (Cut c.arg
 pub cut-requires-clause-end : goal.cut-requires-clause-end
 cut-requires-clause-end g c κs within =
     let is = who c.self.invariant (worker-there c.self.invariant c.if-w-self.false c.index_mut.ensures.value) in
-    c.self.invariant.same_board_end ∙ ap (λ (f : Config). end_of f) (sym is.1)
+    (omega arith, c.self.invariant.same_board_end ∙ ap (λ (f : Config). end_of f) (sym is.1))
 
 pub invariant_of-self : goal.invariant_of-self
 invariant_of-self g c =

@@ -1,4 +1,4 @@
-use Rattle.std.proofs.Common.{ℕ, ◌∙◌, ap, sym, subst, refl, Some}
+use Rattle.std.proofs.Common.{ℕ, ◌∙◌, ap, sym, subst, refl, Some, arith}
 use Rattle.vt_key.specs.declared.fault.Fault.TheVariants.{NotLawful}
 use Rattle.vt_model.specs.declared.settings.Config.{Config}
 use Rattle.vt_steps.specs.declared.step.Step.TheVariants.{Fetch}
@@ -16,7 +16,7 @@ pub fetch-requires-clause-own : goal.fetch-requires-clause-own
 fetch-requires-clause-own g c κs within =
     let is = who c.self.invariant (worker-there c.self.invariant c.if-w-self.false c.index_mut.ensures.value) in
     let here = inbox-there c.self.invariant c.if-w-self.false c.index_mut-2.ensures.value ∙ ap (λ l. Some l) (sym c.behind-self.view_is) in
-    subst (λ (x : ℕ × Config). AllOwnMail x.1 x.0 c.behind-self.inside.mail.items) (λ i. (sym is.0 i, sym is.1 i)) (own-mail c.self.invariant here)
+    (omega arith, subst (λ (x : ℕ × Config). AllOwnMail x.1 x.0 c.behind-self.inside.mail.items) (λ i. (sym is.0 i, sym is.1 i)) (own-mail c.self.invariant here))
 
 pub invariant_of-self : goal.invariant_of-self
 invariant_of-self g c =
