@@ -96,7 +96,7 @@ fn main(rt: HostRuntime) -> ExitCode {
             },
         ),
     );
-    terminal.hint(status, || hint_of_process(&rt, &TEXTS, &OPTIONS));
-    terminal.hint_on_turns(|| turns_hint_of_process(&rt, &TEXTS, &OPTIONS));
+    terminal.hint(status, || hint_of_process(&rt, &TEXTS, &OPTIONS, &[]));
+    terminal.hint_on_turns(|| turns_hint_of_process(&rt, &TEXTS, &OPTIONS, &[]));
     ExitCode::from(status)
 }

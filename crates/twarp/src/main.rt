@@ -5,8 +5,8 @@ use std::process::ExitCode;
 use vt_meter::Terminal;
 use vt_program::{MachineFiles, hint, program, tell_refusal, turns_hint, words_of};
 
-/// Where standard error is a terminal, a long run shows there how far it is, a refused command line what is allowed, and a run without
-/// enough turns how many allow more.
+/// Standard error may be a terminal. Then a long run shows there how far it is. A refused command line gets a second line that says what is
+/// allowed, and so does a run whose turns were too few.
 fn main(rt: HostRuntime) -> ExitCode {
     let terminal = Terminal::new(&rt, rt.stderr());
     let mut out = terminal.output(rt.stdout());

@@ -145,6 +145,7 @@ pub(crate) static MODELS: ModelTable<'static> = ModelTable {
             ],
         },
     ],
+    files: &[],
     programs: true,
 };
 

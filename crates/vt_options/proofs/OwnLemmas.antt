@@ -16,7 +16,7 @@ use Rattle.vt_options.specs.promise.Line.{given_by, texts_by}
 use Rattle.vt_options.specs.promise.Requests.{AreBy}
 use Rattle.vt_options.specs.inside.Requests.{IsRefusedByOf}
 use Rattle.vt_options.specs.promise.Table.{Given, NumberOption, bad, bad_number, first_name, first_bad_of, value_in}
-use Rattle.vt_options.specs.promise.Own.{AreInRange, AreWithin, GiveRun, GiveReplay, GiveValues, Models, app_for, first_bad_of_run, first_bad_of_replay, line_for, number_option, number_table}
+use Rattle.vt_options.specs.promise.Own.{AreInRange, AreWithin, GiveRun, GiveReplay, GiveValues, Models, OptionPath, app_for, first_bad_of_run, first_bad_of_replay, line_for, number_option, number_table}
 use Rattle.vt_options.specs.inside.Own.{NamesBad}
 use Rattle.vt_options.proofs.RequestLemmas as requests
 
@@ -91,11 +91,11 @@ module _ (name : Text) (models : Models) (words : List Text) (found : Given) (te
   by_words Holds h = subst (Holds (given_by (app_for name models) words)) t (subst (λ (g : Given). Holds g texts) (λ i option. e option i) h)
 
   -- settings and a choice that they give
-  pub run_given : (s : RunSettings) (k : ℕ) (values : List ℕ) (l : Option ℕ) (p : Option ProgramChoice) → GiveRun models found texts s k values l p → GiveRun models (given_by (app_for name models) words) (texts_by (app_for name models) words (codes "set")) s k values l p
-  run_given s k values l p = by_words (λ g ts. GiveRun models g ts s k values l p)
+  pub run_given : (s : RunSettings) (k : ℕ) (values : List ℕ) (l : Option ℕ) (p : Option ProgramChoice) (fs : List OptionPath) → GiveRun models found texts s k values l p fs → GiveRun models (given_by (app_for name models) words) (texts_by (app_for name models) words (codes "set")) s k values l p fs
+  run_given s k values l p fs = by_words (λ g ts. GiveRun models g ts s k values l p fs)
 
-  pub replay_given : (s : ReplaySettings) (k : ℕ) (values : List ℕ) (l : Option ℕ) (p : Option ProgramChoice) → GiveReplay models found texts s k values l p → GiveReplay models (given_by (app_for name models) words) (texts_by (app_for name models) words (codes "set")) s k values l p
-  replay_given s k values l p = by_words (λ g ts. GiveReplay models g ts s k values l p)
+  pub replay_given : (s : ReplaySettings) (k : ℕ) (values : List ℕ) (l : Option ℕ) (p : Option ProgramChoice) (fs : List OptionPath) → GiveReplay models found texts s k values l p fs → GiveReplay models (given_by (app_for name models) words) (texts_by (app_for name models) words (codes "set")) s k values l p fs
+  replay_given s k values l p fs = by_words (λ g ts. GiveReplay models g ts s k values l p fs)
 
   module _ (fault : Fault) where
     -- a refusal for memory refuses any words

@@ -1,25 +1,25 @@
 //! Requests: what the command line of a program of models asks for.
 
-ghost use Rattle.std.specs.Prelude.{◌≡◌, ◌++◌, [], List, IfOk, IfErr, codes, false, map};
+ghost use Rattle.std.specs.Prelude.{◌≡◌, ◌++◌, [], List, IfOk, IfErr, codes, map};
 ghost use Rattle.clap.specs.Words.{Text, fault_of, subcommand_of, subcommand_rows_of, first_value, found_of, HasKind};
 ghost use Rattle.vt_options.specs.promise.Line.{once};
 ghost use Rattle.vt_options.specs.inside.Line.{helps_of, names_of, options_of, texts_in};
-ghost use Rattle.vt_options.specs.promise.Own.{GiveRun, GiveReplay, number_table, table_names, naming_names, app_for, line_for, printing_options, program_options, run_options, replay_options, first_bad_of_run, first_bad_of_replay};
-ghost use Rattle.vt_options.specs.inside.Own.{AllHaveDefaults, NamesBad, models_of, tables_of};
+ghost use Rattle.vt_options.specs.promise.Own.{GiveRun, GiveReplay, number_table, path_of, table_names, naming_names, app_for, line_for, printing_options, program_options, run_options, replay_options, first_bad_of_run, first_bad_of_replay};
+ghost use Rattle.vt_options.specs.inside.Own.{AllHaveDefaults, NamesBad, models_of, file_names, tables_of};
 ghost use Rattle.vt_options.specs.inside.Requests.{IsRefusedByOf};
 ghost use Rattle.vt_options.specs.inside.Asked.{IsAsked};
 
 use crate::line::{LineOption, ProgramTexts, Uses, matches_in};
 use crate::models::{model_option, model_values};
-use crate::own::{Chosen, ModelOptions, ModelTable, OwnOption};
+use crate::own::{Chosen, FileOption, ModelOptions, ModelTable, OwnOption, file_options};
 use crate::programs::{lps_given, program_option};
 use crate::reading::{
     config_options, finals_option, number_option, records_option, synch_option, text_option,
 };
 use crate::refusing::help_of;
 use crate::texts::{
-    DATA, END, FINALS, FUEL, LPS, OptionText, PROGRAM, RECORDS, REPLAY_WORKERS, SEED, SERIAL, SET,
-    SYNCH, TEXT, TURNS, WORKERS,
+    DATA, END, FILES_HEADING, FINALS, FUEL, LPS, OptionText, PROGRAM, RECORDS, REPLAY_WORKERS,
+    SEED, SERIAL, SET, SYNCH, TEXT, TURNS, WORKERS,
 };
 use crate::{MAX_TURNS, ReplaySettings, RunSettings, Task};
 use clap::{ArgMatches, Error};
@@ -106,6 +106,30 @@ fn add_models(list: &mut Vec<LineOption>, models: &[ModelOptions<'_>]) -> Result
     Ok(())
 }
 
+/// What help shows of an option that is a file.
+fn file_text(option: &FileOption) -> OptionText
+    ensures name { result.name.now ≡ option.now.name.now }
+    ensures help { result.help.now ≡ option.now.help.now }
+{
+    OptionText {
+        name: option.name,
+        value: "FILE",
+        heading: FILES_HEADING,
+        takes: "",
+        help: option.help,
+    }
+}
+
+/// Adds the options that are files to a list.
+fn add_files(list: &mut Vec<LineOption>, files: &[FileOption]) -> Result<(), AllocError>
+    ensures { IfOk result (λ _. options_of list.new.items ≡ options_of list.old.items ++ map once (file_names files.now)) }
+{
+    for option in files {
+        list.push(once(file_text(option)))?;
+    }
+    Ok(())
+}
+
 /// Adds the options that say what a run prints beside the version of its text.
 fn add_printing(list: &mut Vec<LineOption>) -> Result<(), AllocError>
     ensures { IfOk result (λ _. options_of list.new.items ≡ options_of list.old.items ++ printing_options) }
@@ -142,6 +166,7 @@ fn run_options(alloc: Global, table: &ModelTable<'_>) -> Result<Vec<LineOption>,
     add_naming(&mut list, table)?;
     add_all(&mut list, &[SYNCH, WORKERS, LPS, END, SEED])?;
     add_models(&mut list, table.models)?;
+    add_files(&mut list, table.files)?;
     add_all(&mut list, &[TURNS, TEXT])?;
     add_printing(&mut list)?;
     add_programs(&mut list, table.programs)?;
@@ -156,6 +181,7 @@ fn replay_options(alloc: Global, table: &ModelTable<'_>) -> Result<Vec<LineOptio
     add_naming(&mut list, table)?;
     add_all(&mut list, &[REPLAY_WORKERS, LPS, END, SEED])?;
     add_models(&mut list, table.models)?;
+    add_files(&mut list, table.files)?;
     add_all(&mut list, &[SERIAL, TEXT])?;
     add_programs(&mut list, table.programs)?;
     Ok(list)
@@ -168,7 +194,7 @@ fn read_run<'a>(
     table: &ModelTable<'_>,
 ) -> Result<(RunSettings, Chosen<'a>), Fault>
     requires { AllHaveDefaults table.now.models.now }
-    ensures ok { IfOk result (λ r. GiveRun (models_of table.now) (first_value (found_of matches.now)) (texts_in matches.now (codes "set")) r.0 r.1.model r.1.values.items r.1.lps r.1.program) }
+    ensures ok { IfOk result (λ r. GiveRun (models_of table.now) (first_value (found_of matches.now)) (texts_in matches.now (codes "set")) r.0 r.1.model r.1.values.items r.1.lps r.1.program (map path_of r.1.files.items)) }
     ensures err { IfErr result (NamesBad (first_bad_of_run (models_of table.now) (first_value (found_of matches.now)) (texts_in matches.now (codes "set")))) }
 {
     let model = model_option(matches, table)?;
@@ -180,6 +206,7 @@ fn read_run<'a>(
     let finals = finals_option(matches, text)?;
     let records = records_option(matches, text)?;
     let program = program_option(alloc, matches, table)?;
+    let files = file_options(alloc, matches, table.files)?;
     let settings = RunSettings {
         synch,
         config,
@@ -190,6 +217,7 @@ fn read_run<'a>(
     let chosen = Chosen {
         model,
         values,
+        files,
         lps: lps_given(matches, config.lps),
         program,
     };
@@ -203,7 +231,7 @@ fn read_replay<'a>(
     table: &ModelTable<'_>,
 ) -> Result<(ReplaySettings, Chosen<'a>), Fault>
     requires { AllHaveDefaults table.now.models.now }
-    ensures ok { IfOk result (λ r. GiveReplay (models_of table.now) (first_value (found_of matches.now)) (texts_in matches.now (codes "set")) r.0 r.1.model r.1.values.items r.1.lps r.1.program) }
+    ensures ok { IfOk result (λ r. GiveReplay (models_of table.now) (first_value (found_of matches.now)) (texts_in matches.now (codes "set")) r.0 r.1.model r.1.values.items r.1.lps r.1.program (map path_of r.1.files.items)) }
     ensures err { IfErr result (NamesBad (first_bad_of_replay (models_of table.now) (first_value (found_of matches.now)) (texts_in matches.now (codes "set")))) }
 {
     let model = model_option(matches, table)?;
@@ -212,6 +240,7 @@ fn read_replay<'a>(
     let serial = number_option(matches, "serial", 0, MAX_COUNT, 0)?;
     let text = text_option(matches)?;
     let program = program_option(alloc, matches, table)?;
+    let files = file_options(alloc, matches, table.files)?;
     let settings = ReplaySettings {
         config,
         serial,
@@ -220,6 +249,7 @@ fn read_replay<'a>(
     let chosen = Chosen {
         model,
         values,
+        files,
         lps: lps_given(matches, config.lps),
         program,
     };

@@ -1,10 +1,10 @@
 //! The options of models of one's own, as tables.
 
-ghost use Rattle.std.specs.Prelude.{◌≡◌, None, IfOk, IfErr, length};
+ghost use Rattle.std.specs.Prelude.{◌≡◌, None, IfOk, IfErr, map};
 ghost use Rattle.clap.specs.Words.{first_value, found_of};
 ghost use Rattle.vt_options.specs.promise.Table.{first_bad_of};
-ghost use Rattle.vt_options.specs.promise.Own.{HaveDefaults, AreWithin, GiveValues, number_table};
-ghost use Rattle.vt_options.specs.inside.Own.{NamesBad};
+ghost use Rattle.vt_options.specs.promise.Own.{HaveDefaults, AreWithin, GivePaths, GiveValues, number_table, path_of};
+ghost use Rattle.vt_options.specs.inside.Own.{NamesBad, file_names};
 
 use crate::programs::ProgramChoice;
 use crate::reading::small_option;
@@ -28,6 +28,15 @@ pub struct OwnOption {
     pub help: &'static str,
 }
 
+/// An option of a model whose value is the path of a file. Any text is one; without the option there is no file.
+#[derive(Debug, Clone, Copy)]
+pub struct FileOption {
+    /// The option's name, without its dashes. No other option of the program may have it.
+    pub name: &'static str,
+    /// What help says of it.
+    pub help: &'static str,
+}
+
 /// A model of a program, with its options.
 #[derive(Debug, Clone, Copy)]
 pub struct ModelOptions<'a> {
@@ -46,9 +55,20 @@ pub struct ModelTable<'a> {
     pub naming: Option<OptionText>,
     /// The models, in the order in which their options are tested.
     pub models: &'a [ModelOptions<'a>],
+    /// The options that are paths of files. Each model has them.
+    pub files: &'a [FileOption],
     /// Whether the file of a program may take the place of a model. Then a line may have `--program`, `--set`, `--data` and `--fuel`
     /// too.
     pub programs: bool,
+}
+
+/// The file that the words give to an option.
+#[derive(Debug, Clone, Copy)]
+pub struct FileChoice<'a> {
+    /// The option's name.
+    pub option: &'a str,
+    /// The path of the file, if the words give one.
+    pub path: Option<&'a str>,
 }
 
 /// The model that a command line chooses, and the values of its options; or the program in its place.
@@ -58,6 +78,8 @@ pub struct Chosen<'a> {
     pub model: usize,
     /// The values of its options, in the order of its own table. Each is in its range.
     pub values: Vec<u32>,
+    /// The files of its options, in the order of their table.
+    pub files: Vec<FileChoice<'a>>,
     /// The number of processes, if the words give one.
     pub lps: Option<u32>,
     /// The program that takes the model's place, if the words give one.
@@ -88,4 +110,28 @@ pub(crate) fn own_options(
         };
     }
     Ok(values)
+}
+
+/// The files that the words give to options, in the order of their table.
+///
+/// [`Fault::Memory`]: memory was refused.
+pub(crate) fn file_options<'a>(
+    alloc: Global,
+    matches: &ArgMatches<'a>,
+    table: &[FileOption],
+) -> Result<Vec<FileChoice<'a>>, Fault>
+    ensures ok { IfOk result (λ files. GivePaths (first_value (found_of matches.now)) (file_names table.now) (map path_of files.items)) }
+    ensures err { IfErr result (λ fault. fault ≡ Fault.Memory) }
+{
+    let mut files = Vec::new(alloc);
+    for file in table {
+        let choice = FileChoice {
+            option: file.name,
+            path: matches.get_str(file.name),
+        };
+        let Ok(()) = files.push(choice) else {
+            return Err(Fault::Memory);
+        };
+    }
+    Ok(files)
 }

@@ -1,6 +1,6 @@
 //! Options, read from the matches of a command line.
 
-ghost use Rattle.std.specs.Prelude.{◌≡◌, ◌≤◌, ◌<◌, ◌^◌, ℕ, List, Some, None, IfOk, IfErr, codes, true};
+ghost use Rattle.std.specs.Prelude.{◌≡◌, ◌<◌, Some, None, IfOk, IfErr, codes, true};
 ghost use Rattle.clap.specs.Words.{first_value, found_of};
 ghost use Rattle.vt_key.specs.promise.Faults.{fault_number, option_named};
 ghost use Rattle.vt_model.specs.promise.Settings.{is_between};

@@ -57,7 +57,7 @@ pub fn shown_word(alloc: Global, word: &str) -> Option<String>
 
 /// A sentence that quotes words as a terminal is shown it: as [`shown_word`] shows a word, but with its single quotes as they are, and in
 /// [`SENTENCE_COLUMNS`]. None: memory was refused.
-pub(crate) fn shown_sentence(alloc: Global, sentence: &str) -> Option<String>
+pub fn shown_sentence(alloc: Global, sentence: &str) -> Option<String>
     ensures { IfSome result (λ text. IsShownSentence sentence.now (string_bytes text)) }
 {
     shown_in(alloc, '\'', SENTENCE_COLUMNS, sentence).ok()

@@ -120,6 +120,9 @@ pub(crate) const RECORDS: OptionText = OptionText {
 /// The heading of the options of programs.
 const PROGRAMS_HEADING: &str = "Options of a program, a RISC-V executable in the place of a model";
 
+/// The heading of the options of a model that are files.
+pub(crate) const FILES_HEADING: &str = "Files of the model";
+
 /// The file of a program.
 pub(crate) const PROGRAM: OptionText = OptionText {
     name: "program",

@@ -8,7 +8,6 @@ ghost use Rattle.vt_program.specs.inside.Hints.{TellsProgram, program_line};
 ghost use Rattle.vt_program.specs.promise.Models.{Refuses};
 ghost use Rattle.vt_program.specs.promise.Programs.{option_of};
 
-use crate::files::Files;
 use crate::programs::{ProgramRefusal, fault_of, program_model};
 use std::alloc::Global;
 use std::convert::AsStr;
@@ -17,6 +16,7 @@ use vt_guest::Refusal;
 use vt_key::Fault;
 use vt_model::Config;
 use vt_options::{ProgramChoice, Request, shown_word};
+use vt_runner::Files;
 
 /// The line of an option that is bad, and what is said of it. None: memory was refused.
 fn hint_on_program(alloc: Global, option: &str, said: &str) -> Option<String>

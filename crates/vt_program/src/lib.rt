@@ -4,7 +4,6 @@
 //! whole program with writers of their own.
 #![tactic(auto)]
 
-mod files;
 mod hinting;
 mod models;
 mod programs;
@@ -22,7 +21,6 @@ ghost use Rattle.vt_program.specs.promise.Outcomes.{AskWithBadLine, IsDoneByTwar
 ghost use Rattle.vt_tasks.specs.inside.Models.{CarriesOut};
 ghost use Rattle.vt_tasks.specs.inside.Tasks.{BeginsWithinLimit};
 
-pub use files::{Files, MachineFiles, ReadFault};
 pub use hinting::hint;
 pub use models::TwarpModel;
 use models::answer_task;
@@ -38,7 +36,7 @@ use vt_command::{model_table, texts};
 use vt_key::Fault;
 use vt_options::{Chosen, Task};
 use vt_runner::models_program;
-pub use vt_runner::words_of;
+pub use vt_runner::{Files, MachineFiles, ReadFault, words_of};
 pub use vt_text::print_records;
 pub use vt_watch::{Progress, Unwatched, Watch};
 

@@ -10,7 +10,6 @@ ghost use Rattle.vt_program.specs.promise.Programs.{option_of};
 ghost use Rattle.vt_program.specs.promise.Models.{IsMadeOf, Makes, hop_values, phold_values, stations_values, meaning_of};
 ghost use Rattle.vt_program.specs.inside.Models.{IsChoice};
 
-use crate::files::Files;
 use crate::programs::{ProgramRefusal, fault_of, program_model};
 use std::alloc::Global;
 use std::io::{Read, Write};
@@ -21,6 +20,7 @@ use vt_key::Fault;
 use vt_model::Config;
 use vt_models::{Hop, Phold, Stations};
 use vt_options::{Chosen, Task};
+use vt_runner::Files;
 use vt_watch::Watch;
 
 /// One of the models of the program, made of the values of its options, or the program that takes their place.

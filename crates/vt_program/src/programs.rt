@@ -1,15 +1,14 @@
 //! Programs in the place of a model: how one is made of files and of what the words give it.
 
-ghost use Rattle.std.specs.Prelude.{◌≡◌, ◌⊎◌, ℕ, Option, IfOk, IfErr, map};
+ghost use Rattle.std.specs.Prelude.{◌≡◌, ℕ, Option, IfOk, IfErr, map};
 ghost use Rattle.vt_key.specs.promise.Faults.{option_named};
 ghost use Rattle.vt_options.specs.declared.processes.Unsettled.{Unsettled};
 ghost use Rattle.vt_options.specs.promise.Processes.{IsUnsettled, Settles};
 ghost use Rattle.vt_options.specs.promise.Programs.{pair_of};
-ghost use Rattle.vt_program.specs.promise.Programs.{Loads, MayFail, MayHave, MayHaveData, RefusesProgram, data_name, option_of, set_pair};
+ghost use Rattle.vt_program.specs.promise.Programs.{Loads, MayHave, MayHaveData, RefusesProgram, data_name, option_of, set_pair};
 ghost use Rattle.vt_program.specs.inside.Programs.{unsettled_refusal};
 ghost use Rattle.vt_program.specs.promise.Guests.{IsGuestOf, RunsProgram};
 
-use crate::files::{Files, ReadFault};
 use crate::models::TwarpModel;
 use std::alloc::{AllocError, Global};
 use thiserror::Error;
@@ -17,6 +16,7 @@ use vt_guest::{Guest, Loaded, MAX_DATA, Program, Refusal, Set, load};
 use vt_key::Fault;
 use vt_model::Config;
 use vt_options::{Assignment, ProgramChoice, Unsettled, settled};
+use vt_runner::{Files, ReadFault, bytes_of};
 
 /// The most bytes of a program's file: 17 MiB.
 pub const MAX_PROGRAM_FILE: usize = 17 * 1_048_576;
@@ -58,19 +58,6 @@ pub(crate) fn fault_of(refusal: &ProgramRefusal) -> Fault
         ProgramRefusal::Load(_) => Fault::BadOption("program"),
         ProgramRefusal::Lps(_) => Fault::BadOption("lps"),
     }
-}
-
-/// The bytes of a file, which are at most `most`.
-fn bytes_of<D: Files>(
-    alloc: Global,
-    files: &D,
-    name: &str,
-    most: usize,
-) -> Result<Vec<u8>, ReadFault>
-    ensures ok { IfOk result (λ bytes. MayHave (D.told files.now) name.now most bytes.items) }
-    ensures err { IfErr result (λ fault. (fault ≡ ReadFault.Memory) ⊎ MayFail (D.told files.now) name.now most) }
-{
-    files.read(alloc, name, most)
 }
 
 /// The bytes of a program's file.

@@ -1,3 +1,4 @@
 pub mod RunLemmas
 pub mod WorkerLemmas
 pub mod OneModelLemmas
+pub mod WithFilesLemmas

@@ -1,2 +1,3 @@
 pub mod OneModel
+pub mod WithFiles
 pub mod Pieces

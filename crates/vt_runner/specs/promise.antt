@@ -1,1 +1,2 @@
 pub mod OneModel
+pub mod Files

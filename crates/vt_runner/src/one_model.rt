@@ -74,7 +74,7 @@ impl<M> Made<M> {
 }
 
 /// The number of processes that a model fixes.
-fn fixed_by<M>(made: &Made<M>) -> Option<u64>
+pub(crate) fn fixed_by<M>(made: &Made<M>) -> Option<u64>
     ensures { result ≡ made.now.processes }
 {
     match made.processes {
@@ -84,7 +84,7 @@ fn fixed_by<M>(made: &Made<M>) -> Option<u64>
 }
 
 /// The fault of a model with which nothing is run, since it fixes another number of processes.
-fn fault_of(unsettled: Unsettled) -> Fault
+pub(crate) fn fault_of(unsettled: Unsettled) -> Fault
     ensures { option_named result ≡ Some (option_unsettled unsettled) }
 {
     match unsettled {
@@ -167,6 +167,7 @@ where
     let table = ModelTable {
         naming: None,
         models: &models,
+        files: &[],
         programs: false,
     };
     let on_made = move |rt: &H, alloc: Global, chosen: &Chosen<

@@ -8,13 +8,16 @@ ghost use Rattle.vt_key.specs.promise.Faults.{option_named};
 ghost use Rattle.vt_key.specs.declared.fault.Fault.{Fault};
 ghost use Rattle.vt_key.specs.declared.fault.Fault.TheVariants.{Memory};
 ghost use Rattle.vt_options.specs.inside.Hints.{IsHintOn, TellsTurns};
-ghost use Rattle.vt_options.specs.promise.Own.{HaveDefaults, AreWithin, only, own_line};
-ghost use Rattle.vt_options.specs.inside.Taken.{own_names, taken_in};
+ghost use Rattle.vt_options.specs.promise.Own.{HaveDefaults, AreWithin, line_for};
+ghost use Rattle.vt_options.specs.inside.Taken.{own_names, taken_among, taken_in};
 ghost use Rattle.vt_tasks.specs.promise.Refusals.{TellsRefusalOf, status_of};
 ghost use Rattle.vt_runner.specs.promise.OneModel.{IsDoneOf, EndsOf, IsReadOf};
 ghost use Rattle.vt_runner.specs.inside.OneModel.{IsRefusedUnasked};
+ghost use Rattle.vt_runner.specs.inside.WithFiles.{AnswersAt, IsDoneWithFiles, IsReadWithFiles, RefusesTask, own_models};
 
+use crate::files::Files;
 use crate::one_model::{Made, OWN_HEADING, Streams, model_program};
+use crate::with_files::{Unmade, model_program_with_files};
 use std::alloc::Global;
 use std::env;
 use std::env::Env;
@@ -23,7 +26,10 @@ use std::sync::Wait;
 use std::thread::Threads;
 use vt_key::Fault;
 use vt_model::Model as EventModel;
-use vt_options::{ModelOptions, ModelTable, OwnOption, ProgramTexts, hint, taken_name, turns_hint};
+use vt_options::{
+    FileOption, ModelOptions, ModelTable, OwnOption, ProgramTexts, hint, taken_among, taken_name,
+    turns_hint,
+};
 use vt_tasks::tell_refusal;
 use vt_watch::Watch;
 
@@ -80,7 +86,7 @@ where
     ensures refused { result ≢ 0 → (fault : Fault) × (result ≡ status_of fault)
         × (((words : List Text) × EndsOf M.handlers (λ values made. FnReturnsAt F.Fn make values made) texts.now.name.now own.now fault words (R.remaining streams.old.input) (O.contents streams.old.output) (O.contents streams.new.output)
         × IsReadOf M.handlers (λ values made. FnReturnsAt F.Fn make values made) texts.now.name.now own.now words (R.remaining streams.old.input) (R.remaining streams.new.input))
-        ⊎ IsRefusedUnasked own.now fault (R.remaining streams.old.input) (R.remaining streams.new.input) (O.contents streams.old.output) (O.contents streams.new.output))
+        ⊎ IsRefusedUnasked (taken_in (own_names own.now)) fault (R.remaining streams.old.input) (R.remaining streams.new.input) (O.contents streams.old.output) (O.contents streams.new.output))
         × TellsRefusalOf texts.now.name.now fault (E.contents streams.old.errors) (E.contents streams.new.errors) }
     ensures taken { (name : Text) → taken_in (own_names own.now) ≡ Some name → (result ≡ 2)
         × Keeps (R.remaining streams.old.input) (R.remaining streams.new.input) × Keeps (O.contents streams.old.output) (O.contents streams.new.output)
@@ -104,6 +110,65 @@ where
     }
 }
 
+/// The whole program of a model, some of whose options are files: does what the words of the process ask for, as
+/// [`model_program_with_files`] says, and returns the exit status. All else is as [`run_program`] says; the name of a file's option is taken
+/// as that of a number is.
+pub fn run_program_with_files<
+    H: Threads + Wait + Sync + Env + AllocGlobal,
+    M: EventModel + Sync + Drop,
+    D: Files,
+    F: Fn(&[u32], &[Option<Vec<u8>>]) -> Result<Made<M>, Unmade>,
+    R: Read,
+    O: Write,
+    E: Write,
+    W: Watch + Sync,
+>(
+    rt: &H,
+    streams: &mut Streams<R, O, E>,
+    texts: &ProgramTexts,
+    own: &[OwnOption],
+    files: &[FileOption],
+    opened: &D,
+    watch: &W,
+    make: F,
+) -> u8
+where
+    M::State: Send,
+    M::Kept: Send,
+    requires defaults { HaveDefaults own.now }
+    requires callable { (values : _) (bytes : _) → length values.now ≡ length own.now → AreWithin own.now values.now → length bytes.now ≡ length files.now → F.pre make values bytes }
+    ensures done { result ≡ 0 → (words : List Text) × IsDoneWithFiles M.handlers (D.told opened.now) (λ values files answer. AnswersAt F.Fn make values files answer) texts.now.name.now own.now files.now words (R.remaining streams.old.input) (O.contents streams.old.output) (O.contents streams.new.output)
+        × IsReadWithFiles M.handlers (D.told opened.now) (λ values files answer. AnswersAt F.Fn make values files answer) texts.now.name.now own.now files.now words (R.remaining streams.old.input) (R.remaining streams.new.input) }
+    ensures silent { result ≡ 0 → Keeps (E.contents streams.old.errors) (E.contents streams.new.errors) }
+    ensures refused { result ≢ 0 → ((words : List Text) × RefusesTask M.handlers (D.told opened.now) (λ values files answer. AnswersAt F.Fn make values files answer) texts.now.name.now own.now files.now words result (R.remaining streams.old.input) (O.contents streams.old.output) (O.contents streams.new.output) (E.contents streams.old.errors) (E.contents streams.new.errors)
+        × IsReadWithFiles M.handlers (D.told opened.now) (λ values files answer. AnswersAt F.Fn make values files answer) texts.now.name.now own.now files.now words (R.remaining streams.old.input) (R.remaining streams.new.input))
+        ⊎ ((fault : Fault) × (result ≡ status_of fault)
+        × IsRefusedUnasked (taken_among own.now files.now) fault (R.remaining streams.old.input) (R.remaining streams.new.input) (O.contents streams.old.output) (O.contents streams.new.output)
+        × TellsRefusalOf texts.now.name.now fault (E.contents streams.old.errors) (E.contents streams.new.errors)) }
+    ensures taken { (name : Text) → taken_among own.now files.now ≡ Some name → (result ≡ 2)
+        × Keeps (R.remaining streams.old.input) (R.remaining streams.new.input) × Keeps (O.contents streams.old.output) (O.contents streams.new.output)
+        × ((fault : Fault) × (option_named fault ≡ Some name) × TellsRefusalOf texts.now.name.now fault (E.contents streams.old.errors) (E.contents streams.new.errors)) }
+{
+    if let Some(name) = taken_among(own, files) {
+        return tell_refusal(&mut streams.errors, texts.name, Fault::BadOption(name));
+    }
+    match words_of(rt) {
+        Ok(words) => model_program_with_files(
+            rt,
+            rt.alloc(),
+            words.as_slice(),
+            streams,
+            texts,
+            own,
+            files,
+            opened,
+            watch,
+            make,
+        ),
+        Err(fault) => tell_refusal(&mut streams.errors, texts.name, fault),
+    }
+}
+
 /// A line for a terminal on an option of a program that has the name of another. None: memory was refused.
 fn hint_on_taken(alloc: Global, program: &str, name: &str) -> Option<String>
     ensures { IfSome result (λ line. string_bytes line ≡ program.now ++ (codes ": another option of it is named --" ++ (name.now ++ codes " too"))) }
@@ -119,12 +184,13 @@ pub fn hint_of_process<H: Env + AllocGlobal>(
     rt: &H,
     texts: &ProgramTexts,
     own: &[OwnOption],
+    files: &[FileOption],
 ) -> Option<String>
     requires defaults { HaveDefaults own.now }
-    ensures taken { (name : Text) → taken_in (own_names own.now) ≡ Some name → IfSome result (λ line. string_bytes line ≡ texts.now.name.now ++ (codes ": another option of it is named --" ++ (name ++ codes " too"))) }
-    ensures words { taken_in (own_names own.now) ≡ None → IfSome result (λ line. (words : List Text) × IsHintOn texts.now.name.now (own_line texts.now.name.now own.now) words (string_bytes line)) }
+    ensures taken { (name : Text) → taken_among own.now files.now ≡ Some name → IfSome result (λ line. string_bytes line ≡ texts.now.name.now ++ (codes ": another option of it is named --" ++ (name ++ codes " too"))) }
+    ensures words { taken_among own.now files.now ≡ None → IfSome result (λ line. (words : List Text) × IsHintOn texts.now.name.now (line_for texts.now.name.now (own_models own.now files.now)) words (string_bytes line)) }
 {
-    if let Some(name) = taken_name(own) {
+    if let Some(name) = taken_among(own, files) {
         return hint_on_taken(rt.alloc(), texts.name, name);
     }
     let Ok(words) = words_of(rt) else {
@@ -138,6 +204,7 @@ pub fn hint_of_process<H: Env + AllocGlobal>(
     let table = ModelTable {
         naming: None,
         models: &models,
+        files,
         programs: false,
     };
     hint(rt.alloc(), texts, &table, words.as_slice())
@@ -151,9 +218,10 @@ pub fn turns_hint_of_process<H: Env + AllocGlobal>(
     rt: &H,
     texts: &ProgramTexts,
     own: &[OwnOption],
+    files: &[FileOption],
 ) -> Option<String>
     requires defaults { HaveDefaults own.now }
-    ensures words { IfSome result (λ line. (words : List Text) × TellsTurns texts.now.name.now (only own.now) words (string_bytes line)) }
+    ensures words { IfSome result (λ line. (words : List Text) × TellsTurns texts.now.name.now (own_models own.now files.now) words (string_bytes line)) }
 {
     let Ok(words) = words_of(rt) else {
         return None;
@@ -166,6 +234,7 @@ pub fn turns_hint_of_process<H: Env + AllocGlobal>(
     let table = ModelTable {
         naming: None,
         models: &models,
+        files,
         programs: false,
     };
     turns_hint(rt.alloc(), texts, &table, words.as_slice())

@@ -31,11 +31,6 @@ use Rattle.vt_tasks.proofs.OutcomeLemmas as outcomes
 pub values_are : (given : Given) (table : List NumberOption) (values : List ℕ) → GiveValues given table values → length values ≡ length table
 values_are given table values h = sym (length-map values Some) ∙ sym (ap length h) ∙ length-map table (value_in given)
 
--- a task with its own config
-pub same_task : (task : Task) → with_config (task_config task) task ≡ task
-same_task (Run s) = refl
-same_task (Replay s) = refl
-
 module _ (name : Text) (models : Models) (words : List Text) where
   -- the words give the model's index and values
   pub task_given : (task : Task) (chosen : Chosen) → AskTaskWith name models words task chosen → GiveModel models (given_by (app_for name models) words) chosen.model chosen.values.items

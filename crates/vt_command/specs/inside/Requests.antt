@@ -1,5 +1,5 @@
 -- What the words of a command line ask for, and why they are refused.
-use Rattle.std.specs.Prelude.{ℕ, List, None, codes}
+use Rattle.std.specs.Prelude.{ℕ, List, [], None, codes}
 use Rattle.clap.specs.Words.{Text}
 use Rattle.vt_key.specs.declared.fault.Fault.{Fault}
 use Rattle.vt_options.specs.declared.choices.RunSettings.{RunSettings}
@@ -21,11 +21,11 @@ AreOfReplay words = AreBy twarp_app (codes "replay") words
 
 -- the words are those of a run with these settings, of the model of this index with these values of its options, of no program, and without a number of processes
 abbrev pub AskRun : List Text → RunSettings → ℕ → List ℕ → Type 0
-AskRun words s model values = AskRunWith (codes "twarp") twarp_models words s model values None None
+AskRun words s model values = AskRunWith (codes "twarp") twarp_models words s model values None None []
 
 -- the words are those of a replay with these settings, on the model of this index with these values of its options, on no program, and without a number of processes
 abbrev pub AskReplay : List Text → ReplaySettings → ℕ → List ℕ → Type 0
-AskReplay words s model values = AskReplayWith (codes "twarp") twarp_models words s model values None None
+AskReplay words s model values = AskReplayWith (codes "twarp") twarp_models words s model values None None []
 
 -- the words have a bad option, the first of which has this name
 abbrev pub HasBadOption : List Text → Text → Type 0

@@ -55,5 +55,6 @@ abbrev pub twarp_models : Models
 twarp_models = record {
   naming = Some (record { option = codes "model"; names = codes "hop" ∷ codes "phold" ∷ codes "stations" ∷ [] });
   tables = hop_table ∷ phold_table ∷ stations_table ∷ [];
+  files = [];
   programs = true;
 }

@@ -6,7 +6,7 @@ use Rattle.vt_options.specs.declared.choices.RunSettings.{RunSettings}
 use Rattle.vt_options.specs.declared.limits.TheConstants.{MAX_TURNS}
 use Rattle.vt_options.specs.declared.programs.ProgramChoice.{ProgramChoice}
 use Rattle.vt_options.specs.promise.Line.{given_by, subcommand_by, texts_by}
-use Rattle.vt_options.specs.promise.Own.{Models, AskRunWith}
+use Rattle.vt_options.specs.promise.Own.{Models, AskRunWith, OptionPath}
 use Rattle.vt_options.specs.inside.Programs.{SetsNothing}
 use Rattle.vt_options.specs.promise.Requests.{IsRefusedAsOf, IsUnreadableBy, Line}
 use Rattle.vt_options.specs.inside.Shown.{IsShownSentence, IsShownWord}
@@ -75,7 +75,8 @@ pub record TellsTurns (program : Text) (models : Models) (words : List Text) (te
   pub values : List ℕ
   pub lps : Option ℕ
   pub choice : Option ProgramChoice
-  pub asked : AskRunWith program models words settings model values lps choice
+  pub paths : List OptionPath
+  pub asked : AskRunWith program models words settings model values lps choice paths
   pub more : ℕ
   pub is_more : settings.turns < more
   pub allowed : more ≤ MAX_TURNS

@@ -6,6 +6,7 @@ use Rattle.clap.specs.Words.{Text}
 use Rattle.vt_key.specs.declared.fault.Fault.{Fault}
 use Rattle.vt_key.specs.declared.fault.Fault.TheVariants.{Memory}
 use Rattle.vt_key.specs.promise.Faults.{fault_number, option_named}
+use Rattle.vt_options.specs.declared.own.FileOption.{FileOption}
 use Rattle.vt_options.specs.declared.own.ModelOptions.{ModelOptions}
 use Rattle.vt_options.specs.declared.own.ModelTable.{ModelTable}
 use Rattle.vt_options.specs.declared.texts.OptionText.{OptionText}
@@ -16,6 +17,11 @@ use Rattle.vt_options.specs.promise.Own.{number_table, has_default, Naming, Mode
 -- memory was refused, or a bad option is named
 abbrev pub NamesBad : Option Text → Fault → Type 0
 NamesBad name fault = (fault ≡ Memory) ⊎ ((fault_number fault ≡ 7) × (option_named fault ≡ name))
+
+-- ---- options that are files
+
+abbrev pub file_names : List FileOption → List Text
+file_names files = map (λ o. o.name.now) files
 
 -- ---- the tables of several models
 
@@ -31,7 +37,7 @@ abbrev pub tables_of : List ModelOptions → List (List NumberOption)
 tables_of models = map (λ m. number_table m.options.now) models
 
 abbrev pub models_of : ModelTable → Models
-models_of t = record { naming = naming_of t.naming (model_names t.models.now); tables = tables_of t.models.now; programs = t.programs }
+models_of t = record { naming = naming_of t.naming (model_names t.models.now); tables = tables_of t.models.now; files = file_names t.files.now; programs = t.programs }
 
 -- each default of each model is in its range
 abbrev pub AllHaveDefaults : List ModelOptions → Type 0

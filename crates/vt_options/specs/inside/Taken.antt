@@ -3,7 +3,10 @@ use Rattle.std.specs.Prelude.{Bool, ◌||◌, List, [], ◌∷◌, map, Option, 
 use Rattle.std.specs.List.{list_any}
 use Rattle.std.specs.Str.{bytes_eq}
 use Rattle.clap.specs.Words.{Text}
+use Rattle.vt_options.specs.declared.own.FileOption.{FileOption}
 use Rattle.vt_options.specs.declared.own.OwnOption.{OwnOption}
+use Rattle.vt_options.specs.inside.Own.{file_names}
+use Rattle.vt_options.specs.promise.Table.{first_name}
 
 -- the name is one of these
 abbrev pub is_among : List Text → Text → Bool
@@ -22,6 +25,15 @@ abbrev pub taken_in : List Text → Option Text
 taken_in [] = None
 taken_in (name ∷ names) = if is_general name || is_among names name then Some name else taken_in names
 
--- the names of a model's options
+-- the first name of options that are files, which is general, one of the model's numbers, or stands behind itself once more
+abbrev pub taken_file_in : List Text → List Text → Option Text
+taken_file_in own [] = None
+taken_file_in own (name ∷ names) = if is_general name || (is_among own name || is_among names name) then Some name else taken_file_in own names
+
+-- the names of a model's options that are numbers
 abbrev pub own_names : List OwnOption → List Text
 own_names own = map (λ o. o.name.now) own
+
+-- the first name of both that is taken, numbers before files
+abbrev pub taken_among : List OwnOption → List FileOption → Option Text
+taken_among own files = first_name (taken_in (own_names own) ∷ taken_file_in (own_names own) (file_names files) ∷ [])

@@ -1,11 +1,12 @@
 -- The options of models, as tables, and a command line with them.
 -- ---- the table of one model
-use Rattle.std.specs.Prelude.{◌≡◌, ◌⊎◌, ℕ, ◌+◌, ◌&&◌, Bool, true, false, List, [], ◌∷◌, ◌++◌, map, get_or, Option, Some, None, if◌then◌else◌, is_some, codes}
+use Rattle.std.specs.Prelude.{◌≡◌, ◌⊎◌, ℕ, ◌+◌, ◌&&◌, Bool, true, false, List, [], ◌∷◌, ◌++◌, map, get_or, Option, Some, None, if◌then◌else◌, is_some, option_map, codes}
 use Rattle.std.specs.List.{list_all, AllZip}
 use Rattle.std.specs.Str.{bytes_eq}
 use Rattle.clap.specs.Words.{App, Text}
 use Rattle.vt_model.specs.promise.Settings.{is_between}
 use Rattle.vt_options.specs.declared.own.OwnOption.{OwnOption}
+use Rattle.vt_options.specs.declared.own.FileChoice.{FileChoice}
 use Rattle.vt_options.specs.declared.programs.ProgramChoice.{ProgramChoice}
 use Rattle.vt_options.specs.declared.choices.RunSettings.{RunSettings}
 use Rattle.vt_options.specs.declared.choices.ReplaySettings.{ReplaySettings}
@@ -40,6 +41,19 @@ AreWithin own values = AreInRange (number_table own) values
 abbrev pub GiveValues : Given → List NumberOption → List ℕ → Type 0
 GiveValues given table values = map (value_in given) table ≡ map Some values
 
+-- ---- options that are files
+
+-- an option with the path that it is given, if it is given one
+abbrev pub OptionPath : Type 0
+OptionPath = Text × Option Text
+
+abbrev pub path_of : FileChoice → OptionPath
+path_of f = (f.option.now, option_map (λ path. path.now) f.path)
+
+-- the paths that the texts give to these options, in their order
+abbrev pub GivePaths : Given → List Text → List OptionPath → Type 0
+GivePaths given names paths = map (λ name. (name, given name)) names ≡ paths
+
 -- ---- the tables of several models
 
 -- an option that names one of several models: its own name, and the names that it takes
@@ -47,16 +61,21 @@ pub record Naming : Type 0 where
   pub option : Text
   pub names : List Text
 
--- the models of a program: the option that names one of them, if there is one, the options of each, and whether the file of a
--- program may take their place
+-- the models of a program: the option that names one of them, if there is one, the options of each, those that are files, and whether
+-- the file of a program may take their place
 pub record Models : Type 0 where
   pub naming : Option Naming
   pub tables : List (List NumberOption)
+  pub files : List Text
   pub programs : Bool
 
--- one model, which no option names
+-- one model, which no option names, with these options that are files
+abbrev pub only_with : List OwnOption → List Text → Models
+only_with own files = record { naming = None; tables = number_table own ∷ []; files = files; programs = false }
+
+-- one without any
 abbrev pub only : List OwnOption → Models
-only own = record { naming = None; tables = number_table own ∷ []; programs = false }
+only own = only_with own []
 
 -- the index of a name, counted from k: the first if it stands there twice
 abbrev pub index_from : ℕ → List Text → Text → Option ℕ
@@ -128,7 +147,8 @@ run_options models =
     map once (naming_names models.naming)
     ++ (map once (codes "synch" ∷ codes "workers" ∷ codes "lps" ∷ codes "end" ∷ codes "seed" ∷ [])
     ++ (map once (table_names models.tables)
-    ++ (map once (codes "turns" ∷ codes "text" ∷ []) ++ (printing_options ++ program_options models.programs))))
+    ++ (map once models.files
+    ++ (map once (codes "turns" ∷ codes "text" ∷ []) ++ (printing_options ++ program_options models.programs)))))
 
 -- the options of `replay`, in the order in which they are tested
 abbrev pub replay_options : Models → List UsedOption
@@ -136,7 +156,8 @@ replay_options models =
     map once (naming_names models.naming)
     ++ (map once (codes "workers" ∷ codes "lps" ∷ codes "end" ∷ codes "seed" ∷ [])
     ++ (map once (table_names models.tables)
-    ++ (map once (codes "serial" ∷ codes "text" ∷ []) ++ program_options models.programs)))
+    ++ (map once models.files
+    ++ (map once (codes "serial" ∷ codes "text" ∷ []) ++ program_options models.programs))))
 
 abbrev pub app_for : Text → Models → App
 app_for name models = program_app name (run_options models) (replay_options models)
@@ -188,29 +209,31 @@ pub record GiveModel (models : Models) (given : Given) (k : ℕ) (vs : List ℕ)
   pub values : GiveValues given (get_or models.tables k []) vs
   pub within : AreInRange (get_or models.tables k []) vs
 
--- the settings of a run, the index of a model, values of its options, the number of processes, if there is one, and the program that
--- the texts give. The options of all models have values
-pub record GiveRun (models : Models) (given : Given) (texts : List Text) (s : RunSettings) (k : ℕ) (vs : List ℕ) (l : Option ℕ) (p : Option ProgramChoice) : Type 0 where
+-- the settings of a run, the index of a model, values of its options, the number of processes, if there is one, the program and
+-- the paths of files that the texts give. The options of all models have values
+pub record GiveRun (models : Models) (given : Given) (texts : List Text) (s : RunSettings) (k : ℕ) (vs : List ℕ) (l : Option ℕ) (p : Option ProgramChoice) (fs : List OptionPath) : Type 0 where
   pub settings : GiveRunSettings given s
   pub model : GiveModel models given k vs
   pub processes : value_given given lps ≡ l
   pub program : GiveProgram models given texts p
+  pub paths : GivePaths given models.files fs
   pub all_good : first_bad_of_run models given texts ≡ None
 
--- the settings of a replay, the index of a model, values of its options and the program that the texts give
-pub record GiveReplay (models : Models) (given : Given) (texts : List Text) (s : ReplaySettings) (k : ℕ) (vs : List ℕ) (l : Option ℕ) (p : Option ProgramChoice) : Type 0 where
+-- the settings of a replay, the index of a model, values of its options, the program and the paths that the texts give
+pub record GiveReplay (models : Models) (given : Given) (texts : List Text) (s : ReplaySettings) (k : ℕ) (vs : List ℕ) (l : Option ℕ) (p : Option ProgramChoice) (fs : List OptionPath) : Type 0 where
   pub settings : GiveReplaySettings given s
   pub model : GiveModel models given k vs
   pub processes : value_given given lps ≡ l
   pub program : GiveProgram models given texts p
+  pub paths : GivePaths given models.files fs
   pub all_good : first_bad_of_replay models given texts ≡ None
 
--- the words are those of a run with these settings, model, values and program
-pub record AskRunWith (name : Text) (models : Models) (words : List Text) (s : RunSettings) (k : ℕ) (vs : List ℕ) (l : Option ℕ) (p : Option ProgramChoice) : Type 0 where
+-- the words are those of a run with these settings, model, values, program and paths
+pub record AskRunWith (name : Text) (models : Models) (words : List Text) (s : RunSettings) (k : ℕ) (vs : List ℕ) (l : Option ℕ) (p : Option ProgramChoice) (fs : List OptionPath) : Type 0 where
   pub run : AreBy (app_for name models) (codes "run") words
-  pub options : GiveRun models (given_by (app_for name models) words) (texts_by (app_for name models) words (codes "set")) s k vs l p
+  pub options : GiveRun models (given_by (app_for name models) words) (texts_by (app_for name models) words (codes "set")) s k vs l p fs
 
--- the words are those of a replay with these settings, model, values and program
-pub record AskReplayWith (name : Text) (models : Models) (words : List Text) (s : ReplaySettings) (k : ℕ) (vs : List ℕ) (l : Option ℕ) (p : Option ProgramChoice) : Type 0 where
+-- the words are those of a replay with these settings, model, values, program and paths
+pub record AskReplayWith (name : Text) (models : Models) (words : List Text) (s : ReplaySettings) (k : ℕ) (vs : List ℕ) (l : Option ℕ) (p : Option ProgramChoice) (fs : List OptionPath) : Type 0 where
   pub replay : AreBy (app_for name models) (codes "replay") words
-  pub options : GiveReplay models (given_by (app_for name models) words) (texts_by (app_for name models) words (codes "set")) s k vs l p
+  pub options : GiveReplay models (given_by (app_for name models) words) (texts_by (app_for name models) words (codes "set")) s k vs l p fs

@@ -1,11 +1,12 @@
 -- Programs in the place of a model: what is made of files and of what the words give.
-use Rattle.std.specs.Prelude.{◌≡◌, ◌<◌, ◌≤◌, ℕ, ⊤, List, [], length, map, Option, Some, None, IfSome, option_map, string_bytes, codes}
+use Rattle.std.specs.Prelude.{◌≡◌, ℕ, ⊤, List, [], map, Option, Some, None, option_map, string_bytes, codes}
 use Rattle.clap.specs.Words.{Text}
 use Rattle.vt_options.specs.declared.programs.ProgramChoice.{ProgramChoice}
 use Rattle.vt_options.specs.declared.processes.Unsettled.{Unsettled}
 use Rattle.vt_options.specs.declared.processes.Unsettled.TheVariants as reason
 use Rattle.vt_options.specs.promise.Processes.{IsUnsettled}
 use Rattle.vt_options.specs.promise.Programs.{pair_of}
+pub use Rattle.vt_runner.specs.promise.Files.{Told, MayHave, MayFail}
 use Rattle.vt_guest.specs.declared.loading.Loaded.{Loaded}
 use Rattle.vt_guest.specs.declared.loading.Refusal.{Refusal}
 use Rattle.vt_guest.specs.declared.loading.Refusal.TheVariants as load_refusal
@@ -15,19 +16,6 @@ use Rattle.vt_guest.specs.declared.loading.TheConstants.{MAX_DATA}
 use Rattle.vt_program.specs.declared.programs.TheConstants.{MAX_PROGRAM_FILE}
 use Rattle.vt_program.specs.declared.programs.ProgramRefusal.{ProgramRefusal}
 use Rattle.vt_program.specs.declared.programs.ProgramRefusal.TheVariants as refusal
-
--- which bytes a file has, by its name, where they are known
-abbrev pub Told : Type 0
-Told = List ℕ → Option (List ℕ)
-
--- a file may have these bytes: those that are known, if any are, and no more than are read
-pub record MayHave (told : Told) (name : Text) (most : ℕ) (bytes : List ℕ) : Type 0 where
-  pub known : IfSome (told name) (λ known. bytes ≡ known)
-  pub within : length bytes ≤ most
-
--- a file may be refused: its bytes aren't known, or there are more than are read
-abbrev pub MayFail : Told → Text → ℕ → Type 0
-MayFail told name most = IfSome (told name) (λ known. most < length known)
 
 -- the same of a file of data, where there is one: without it there are no bytes
 abbrev pub MayHaveData : Told → Option Text → List ℕ → Type 0

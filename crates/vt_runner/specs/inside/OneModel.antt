@@ -5,12 +5,10 @@ use Rattle.clap.specs.Words.{Text}
 use Rattle.vt_key.specs.declared.fault.Fault.{Fault}
 use Rattle.vt_key.specs.declared.fault.Fault.TheVariants.{Memory}
 use Rattle.vt_key.specs.promise.Faults.{option_named}
-use Rattle.vt_options.specs.declared.own.OwnOption.{OwnOption}
-use Rattle.vt_options.specs.inside.Taken.{own_names, taken_in}
 
--- a program with these options has refused so before it knew what its words ask for: memory was refused, they aren't text, or the
+-- a program has refused so before it knew what its words ask for: memory was refused, they aren't text, or the
 -- name of an option is taken. Nothing was read, and nothing was written
-pub record IsRefusedUnasked (own : List OwnOption) (fault : Fault) (remaining left old new : Option (List ℕ)) : Type 0 where
-  pub why : (fault ≡ Memory) ⊎ (option_named fault ≡ Some (codes "command-line")) ⊎ ((taken : Text) × (taken_in (own_names own) ≡ Some taken) × (option_named fault ≡ Some taken))
+pub record IsRefusedUnasked (taken_name : Option Text) (fault : Fault) (remaining left old new : Option (List ℕ)) : Type 0 where
+  pub why : (fault ≡ Memory) ⊎ (option_named fault ≡ Some (codes "command-line")) ⊎ ((taken : Text) × (taken_name ≡ Some taken) × (option_named fault ≡ Some taken))
   pub unread : Keeps remaining left
   pub kept : Keeps old new

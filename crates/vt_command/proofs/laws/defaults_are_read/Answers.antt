@@ -12,6 +12,7 @@ returns c = record {
       model = record { chosen = refl; values = refl; within = (refl, (refl, (refl, (refl, tt)))) };
       processes = refl;
       program = inr refl;
+      paths = refl;
       all_good = refl;
     };
   };
@@ -22,6 +23,7 @@ returns c = record {
       model = record { chosen = refl; values = refl; within = (refl, (refl, (refl, (refl, tt)))) };
       processes = refl;
       program = inr refl;
+      paths = refl;
       all_good = refl;
     };
   };
@@ -32,6 +34,7 @@ returns c = record {
       model = record { chosen = refl; values = refl; within = (refl, (refl, (refl, (refl, tt)))) };
       processes = refl;
       program = inr refl;
+      paths = refl;
       all_good = refl;
     };
   };
@@ -42,6 +45,7 @@ returns c = record {
       model = record { chosen = refl; values = refl; within = (refl, (refl, (refl, tt))) };
       processes = refl;
       program = inr refl;
+      paths = refl;
       all_good = refl;
     };
   };
@@ -52,6 +56,7 @@ returns c = record {
       model = record { chosen = refl; values = refl; within = (refl, (refl, (refl, (refl, tt)))) };
       processes = refl;
       program = inr refl;
+      paths = refl;
       all_good = refl;
     };
   };
@@ -62,6 +67,7 @@ returns c = record {
       model = record { chosen = refl; values = refl; within = (refl, (refl, (refl, tt))) };
       processes = refl;
       program = inr refl;
+      paths = refl;
       all_good = refl;
     };
   };

@@ -18,3 +18,6 @@ returns-in_err-text-clause-ok c = if_refused _ _ c.from_residual-in_err-text.res
 
 pub returns-in_err-program-clause-ok : goal.returns-in_err-program-clause-ok
 returns-in_err-program-clause-ok c = if_refused _ _ c.from_residual-in_err-program.result c.from_residual-in_err-program.ensures.1
+
+pub returns-in_err-files-clause-ok : goal.returns-in_err-files-clause-ok
+returns-in_err-files-clause-ok c = if_refused _ _ c.from_residual-in_err-files.result c.from_residual-in_err-files.ensures.1

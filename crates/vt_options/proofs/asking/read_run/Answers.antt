@@ -27,3 +27,6 @@ returns-in_err-finals-clause-ok c = if_refused _ _ c.from_residual-in_err-finals
 
 pub returns-in_err-records-clause-ok : goal.returns-in_err-records-clause-ok
 returns-in_err-records-clause-ok c = if_refused _ _ c.from_residual-in_err-records.result c.from_residual-in_err-records.ensures.1
+
+pub returns-in_err-files-clause-ok : goal.returns-in_err-files-clause-ok
+returns-in_err-files-clause-ok c = if_refused _ _ c.from_residual-in_err-files.result c.from_residual-in_err-files.ensures.1

@@ -16,13 +16,13 @@ by_name app words m name known accepted walked found same = record { accepted = 
 pub returns-in_ok-settings-clause-ok : goal.returns-in_ok-settings-clause-ok
 returns-in_ok-settings-clause-ok c = λ program words accepted walked. record {
   run = by_name _ words c.args.matches.now c.in-Some.name.now (codes "run") accepted walked c.in-Some.ensures.name (search rules);
-  options = run_given program (models_of c.args.table.now) words _ _ (given_is (app_for program (models_of c.args.table.now)) words c.args.matches.now c.in-Some.inner.now walked c.in-Some.ensures.rows) (texts_are (app_for program (models_of c.args.table.now)) words c.args.matches.now c.in-Some.inner.now walked c.in-Some.ensures.rows (codes "set")) _ _ _ _ _ c.in_ok-settings.ensures.ok;
+  options = run_given program (models_of c.args.table.now) words _ _ (given_is (app_for program (models_of c.args.table.now)) words c.args.matches.now c.in-Some.inner.now walked c.in-Some.ensures.rows) (texts_are (app_for program (models_of c.args.table.now)) words c.args.matches.now c.in-Some.inner.now walked c.in-Some.ensures.rows (codes "set")) _ _ _ _ _ _ c.in_ok-settings.ensures.ok;
 }
 
 pub returns-in_ok-settings-2-clause-ok : goal.returns-in_ok-settings-2-clause-ok
 returns-in_ok-settings-2-clause-ok c = λ program words accepted walked. record {
   replay = by_name _ words c.args.matches.now c.in-Some.name.now (codes "replay") accepted walked c.in-Some.ensures.name (search rules);
-  options = replay_given program (models_of c.args.table.now) words _ _ (given_is (app_for program (models_of c.args.table.now)) words c.args.matches.now c.in-Some.inner.now walked c.in-Some.ensures.rows) (texts_are (app_for program (models_of c.args.table.now)) words c.args.matches.now c.in-Some.inner.now walked c.in-Some.ensures.rows (codes "set")) _ _ _ _ _ c.in_ok-settings-2.ensures.ok;
+  options = replay_given program (models_of c.args.table.now) words _ _ (given_is (app_for program (models_of c.args.table.now)) words c.args.matches.now c.in-Some.inner.now walked c.in-Some.ensures.rows) (texts_are (app_for program (models_of c.args.table.now)) words c.args.matches.now c.in-Some.inner.now walked c.in-Some.ensures.rows (codes "set")) _ _ _ _ _ _ c.in_ok-settings-2.ensures.ok;
 }
 
 pub returns-in_err-settings-clause-err : goal.returns-in_err-settings-clause-err

@@ -4,6 +4,7 @@ use Rattle.vt_options.specs.declared.asking.Request.{Request}
 use Rattle.vt_options.specs.declared.choices.Task.{Task}
 use Rattle.vt_options.specs.promise.Asked.{AskTaskWith}
 use Rattle.vt_options.specs.inside.Asked.{IsAsked}
+use Rattle.vt_options.specs.promise.Own.{path_of}
 use Rattle.vt_options.specs.inside.Own.{models_of}
 use Rattle.vt_options.proofs.hinting.turns_hint.Goals as goal
 
@@ -21,6 +22,7 @@ returns g c =
       values = chosen.values.items;
       lps = chosen.lps;
       choice = chosen.program;
+      paths = map path_of chosen.files.items;
       asked = run;
       more = c.min-more.result;
       is_more = c.if-more-settings.false;

@@ -1,5 +1,8 @@
 //! Where the bytes of files come from.
 
+ghost use Rattle.std.specs.Prelude.{◌≡◌, ◌⊎◌, IfOk, IfErr};
+ghost use Rattle.vt_runner.specs.promise.Files.{MayFail, MayHave};
+
 use std::alloc::Global;
 use std::fs::File;
 use std::io::{ErrorKind, Read};
@@ -23,7 +26,7 @@ pub enum ReadFault {
 /// Files, by the names that words give them.
 pub trait Files {
     ghost use Rattle.std.specs.Prelude.{◌≡◌, ◌<◌, ◌≤◌, ℕ, List, Option, None, IfOk, IfErr, IfSome, length};
-    ghost use Rattle.vt_program.specs.declared.files.ReadFault.TheVariants.{Unreadable, TooLong};
+    ghost use Rattle.vt_runner.specs.declared.files.ReadFault.TheVariants.{Unreadable, TooLong};
 
     /// The bytes of the file of a name, where they are known.
     ghost told: { Self → List ℕ → Option (List ℕ) };
@@ -73,4 +76,17 @@ impl<'a, R: rt::Files> Files for MachineFiles<'a, R> {
             Err(_) => Err(ReadFault::Unreadable),
         }
     }
+}
+
+/// The bytes of a file, which are at most `most`.
+pub fn bytes_of<D: Files>(
+    alloc: Global,
+    files: &D,
+    name: &str,
+    most: usize,
+) -> Result<Vec<u8>, ReadFault>
+    ensures ok { IfOk result (λ bytes. MayHave (D.told files.now) name.now most bytes.items) }
+    ensures err { IfErr result (λ fault. (fault ≡ ReadFault.Memory) ⊎ MayFail (D.told files.now) name.now most) }
+{
+    files.read(alloc, name, most)
 }

@@ -1,0 +1,3 @@
+pub mod Relay
+pub mod RelayLaws
+pub mod Table
