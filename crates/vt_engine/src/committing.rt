@@ -25,7 +25,7 @@ impl<M: EventModel, const KIND: u8> Engine<M, KIND> {
         ensures rows { (handlers : Handlers _ _ _) (part : Part _) → StandsFor handlers self.now part → IfOk result (λ batch. batch ≡ rows_of_commit (simulation_of handlers self.now.config) self.now.worker part) }
         ensures refused { IfErr result (λ fault. fault ≡ Memory) }
     {
-        match &self.kind {
+        match &*self.kind {
             Kind::Kernel(kernel) => batch_of(alloc, kernel),
             Kind::Share(share) => share.batch(alloc),
         }
@@ -37,7 +37,7 @@ impl<M: EventModel, const KIND: u8> Engine<M, KIND> {
         ensures stands { (handlers : Handlers _ _ _) (part : Part _) → StandsFor handlers self.old part → StandsFor handlers self.new (part_after_commit part) }
         ensures others { self.new ≡ record self.old { processes = self.new.processes } }
     {
-        match &mut self.kind {
+        match &mut *self.kind {
             Kind::Kernel(kernel) => kernel.fossil(),
             Kind::Share(share) => share.fossil(),
         }

@@ -23,7 +23,7 @@ impl<M: EventModel, const KIND: u8> Engine<M, KIND> {
         ensures turned { self.new ≡ record self.old { colour = other_colour self.old.colour; red_minimum = (end_of self.old.config); floor = announced } }
         ensures stands { (handlers : Handlers _ _ _) (part : Part _) → StandsFor handlers self.old part → StandsFor handlers self.new (part_after_cut (end_of self.old.config) announced part) }
     {
-        match &mut self.kind {
+        match &mut *self.kind {
             Kind::Kernel(kernel) => kernel.turn(announced),
             Kind::Share(share) => share.turn(announced),
         }
@@ -34,7 +34,7 @@ impl<M: EventModel, const KIND: u8> Engine<M, KIND> {
         ensures set { self.new ≡ record self.old { floor = floor } }
         ensures stands { (handlers : Handlers _ _ _) (part : Part _) → StandsFor handlers self.old part → StandsFor handlers self.new (record part { floor = floor }) }
     {
-        match &mut self.kind {
+        match &mut *self.kind {
             Kind::Kernel(kernel) => kernel.set_floor(floor),
             Kind::Share(share) => share.set_floor(floor),
         }
@@ -49,7 +49,7 @@ impl<M: EventModel, const KIND: u8> Engine<M, KIND> {
         ensures reports { (handlers : Handlers _ _ _) (part : Part _) → StandsFor handlers self.new part → (result.0 ≡ report_sent part) × (result.1 ≡ report_got part) × (result.2 ≡ report_least (end_of self.new.config) part) }
         ensures same { self.new ≡ self.old }
     {
-        match &mut self.kind {
+        match &mut *self.kind {
             Kind::Kernel(kernel) => kernel.report_values(),
             Kind::Share(share) => share.report_values(),
         }

@@ -1,10 +1,13 @@
 //! The engine.
 
-ghost use Rattle.std.specs.Prelude.{◌≡◌};
+ghost use Rattle.std.specs.Prelude.{◌≡◌, IfOk, IfErr};
+ghost use Rattle.vt_key.specs.declared.fault.Fault.TheVariants.{Memory};
 
 use crate::kind::{KERNEL, Kind};
+use std::alloc::Global;
 use std::marker::Model;
 use vt_kernel::Kernel;
+use vt_key::Fault;
 use vt_model::Model as EventModel;
 
 /// A worker's kernel, of the kind `KIND`, as cells and stations take it.
@@ -14,7 +17,8 @@ use vt_model::Model as EventModel;
 /// it is (`HeldWorker`). What an engine does and answers is what that kernel does and answers.
 #[derive(Drop)]
 pub struct Engine<M: EventModel, const KIND: u8> {
-    pub(crate) kind: Kind<M>,
+    // In a box, so that who owns an engine moves a pointer, and proves nothing of what is in a kernel.
+    pub(crate) kind: Box<Kind<M>>,
 }
 
 impl<M: EventModel, const KIND: u8> Model for Engine<M, KIND> {
@@ -25,26 +29,30 @@ impl<M: EventModel, const KIND: u8> Model for Engine<M, KIND> {
 
     ghost use Rattle.vt_engine.specs.inside.Held.{held_of, number_of};
 
-    ghost view = { λ e. held_of e.kind };
+    ghost view = { λ e. held_of e.kind.value };
 
-    ghost invariant = { λ e. number_of e.kind ≡ KIND };
+    ghost invariant = { λ e. number_of e.kind.value ≡ KIND };
 }
 
 impl<M: EventModel> Engine<M, KERNEL> {
     /// The engine that is this kernel.
-    pub fn of(kernel: Kernel<M>) -> Engine<M, KERNEL>
-        ensures { result ≡ kernel }
+    ///
+    /// [`Fault::Memory`]: memory was refused.
+    pub fn of(alloc: Global, kernel: Kernel<M>) -> Result<Engine<M, KERNEL>, Fault>
+        ensures made { IfOk result (λ engine. engine ≡ kernel) }
+        ensures refused { IfErr result (λ fault. fault ≡ Memory) }
     {
-        Engine {
-            kind: Kind::Kernel(kernel),
-        }
+        let Ok(kind) = Box::new(alloc, Kind::Kernel(kernel)) else {
+            return Err(Fault::Memory);
+        };
+        Ok(Engine { kind })
     }
 
     /// The kernel, to be read.
     pub fn kernel(&self) -> &Kernel<M>
         ensures { result.now ≡ self.now }
     {
-        match &self.kind {
+        match &*self.kind {
             Kind::Kernel(kernel) => kernel,
             Kind::Share(_) => unreachable!(),
         }

@@ -30,7 +30,7 @@ impl<M: EventModel, const KIND: u8> Engine<M, KIND> {
         ensures refused { (handlers : Handlers _ _ _) (part : Part _) → StandsFor handlers self.now part → IfErr result (λ fault. IsSendRefusal (simulation_of handlers self.now.config) self.now.worker v part fault) }
         ensures faults { IfErr result (λ fault. (fault ≡ NotLawful) ⊎ (fault ≡ Exhausted)) }
     {
-        match &self.kind {
+        match &*self.kind {
             Kind::Kernel(kernel) => kernel.may_send(v),
             Kind::Share(share) => share.may_send(v),
         }
@@ -42,7 +42,7 @@ impl<M: EventModel, const KIND: u8> Engine<M, KIND> {
         ensures first { IfSome result (λ u. (v ≤ u) × (u < self.now.config.workers) × (may_send self.now.config.workers self.now.worker u self.now.outbox ≡ true) × ((k : ℕ) → v ≤ k → k < u → may_send self.now.config.workers self.now.worker k self.now.outbox ≡ false)) }
         ensures nobody { IfNone result ((k : ℕ) → v ≤ k → may_send self.now.config.workers self.now.worker k self.now.outbox ≡ false) }
     {
-        match &self.kind {
+        match &*self.kind {
             Kind::Kernel(kernel) => kernel.receiver_from(v),
             Kind::Share(share) => share.receiver_from(v),
         }
@@ -65,7 +65,7 @@ impl<M: EventModel, const KIND: u8> Engine<M, KIND> {
         ensures faults { IfErr result (λ fault. (fault ≡ NotLawful) ⊎ ((fault ≡ Exhausted) ⊎ (fault ≡ Memory))) }
         ensures kept { IfErr result (λ fault. (self.new ≡ self.old) × (mail.new.items ≡ mail.old.items)) }
     {
-        match &mut self.kind {
+        match &mut *self.kind {
             Kind::Kernel(kernel) => kernel.letters_for(v, mail),
             Kind::Share(share) => share.letters_for(v, mail),
         }
@@ -85,7 +85,7 @@ impl<M: EventModel, const KIND: u8> Engine<M, KIND> {
         ensures refused { IfErr result (IsTakeRefusal self.old.arrived self.old.got mail.old.items) }
         ensures kept { IfErr result (λ _. (self.new ≡ self.old) × (mail.new ≡ mail.old)) }
     {
-        match &mut self.kind {
+        match &mut *self.kind {
             Kind::Kernel(kernel) => kernel.fetch(mail),
             Kind::Share(share) => share.fetch(mail),
         }

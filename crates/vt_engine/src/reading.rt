@@ -22,7 +22,7 @@ impl<M: EventModel, const KIND: u8> Engine<M, KIND> {
     pub fn outbox_len(&self) -> usize
         ensures { result ≡ length self.now.outbox % 2 ^ 64 }
     {
-        match &self.kind {
+        match &*self.kind {
             Kind::Kernel(kernel) => kernel.outbox_len(),
             Kind::Share(share) => share.outbox_len(),
         }
@@ -33,7 +33,7 @@ impl<M: EventModel, const KIND: u8> Engine<M, KIND> {
         ensures arrived { result ≡ length self.now.arrived }
         ensures counted { AreCounted self.now.got }
     {
-        match &self.kind {
+        match &*self.kind {
             Kind::Kernel(kernel) => kernel.arrived_len(),
             Kind::Share(share) => share.arrived_len(),
         }
@@ -43,7 +43,7 @@ impl<M: EventModel, const KIND: u8> Engine<M, KIND> {
     pub fn floor(&self) -> When
         ensures { result ≡ self.now.floor }
     {
-        match &self.kind {
+        match &*self.kind {
             Kind::Kernel(kernel) => kernel.floor(),
             Kind::Share(share) => share.floor(),
         }
@@ -57,7 +57,7 @@ impl<M: EventModel, const KIND: u8> Engine<M, KIND> {
         ensures values { (part : Part _) → StandsFor (M.handlers model.now) self.now part → IfOk result (λ v. v.items ≡ part_values (simulation_of (M.handlers model.now) self.now.config) self.now.worker part) }
         ensures refused { IfErr result (λ fault. fault ≡ Memory) }
     {
-        match &self.kind {
+        match &*self.kind {
             Kind::Kernel(kernel) => kernel.finals(alloc, model),
             Kind::Share(share) => share.finals(alloc, model),
         }

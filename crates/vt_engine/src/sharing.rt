@@ -11,18 +11,23 @@ ghost use Rattle.vt_share.specs.inside.Calls.{IsHeldMail, HasNothingPending, all
 
 use crate::engine::Engine;
 use crate::kind::{Kind, SHARE};
+use std::alloc::Global;
 use vt_key::{Fault, When};
 use vt_model::{Model as EventModel, Out};
 use vt_share::Share;
 
 impl<M: EventModel> Engine<M, SHARE> {
     /// The engine that is this share.
-    pub fn of_share(share: Share<M>) -> Engine<M, SHARE>
-        ensures { result ≡ share }
+    ///
+    /// [`Fault::Memory`]: memory was refused.
+    pub fn of_share(alloc: Global, share: Share<M>) -> Result<Engine<M, SHARE>, Fault>
+        ensures made { IfOk result (λ engine. engine ≡ share) }
+        ensures refused { IfErr result (λ fault. fault ≡ Memory) }
     {
-        Engine {
-            kind: Kind::Share(share),
-        }
+        let Ok(kind) = Box::new(alloc, Kind::Share(share)) else {
+            return Err(Fault::Memory);
+        };
+        Ok(Engine { kind })
     }
 
     /// The time of the least pending event, as [`Share::next_time`] says.
@@ -30,7 +35,7 @@ impl<M: EventModel> Engine<M, SHARE> {
         ensures next { result ≡ least_time (end_of self.old.config) (all_pending self.old) }
         ensures same { self.new ≡ self.old }
     {
-        match &mut self.kind {
+        match &mut *self.kind {
             Kind::Kernel(_) => unreachable!(),
             Kind::Share(share) => share.next_time(),
         }
@@ -47,7 +52,7 @@ impl<M: EventModel> Engine<M, SHARE> {
         ensures faults { IfErr result (λ fault. (fault ≡ Exhausted) ⊎ (fault ≡ Memory)) }
         ensures kept { (part : Part _) → StandsFor (M.handlers model.now) self.old part → IfErr result (λ _. self.new ≡ self.old) }
     {
-        match &mut self.kind {
+        match &mut *self.kind {
             Kind::Kernel(_) => unreachable!(),
             Kind::Share(share) => share.execute_next(model, out),
         }
@@ -62,7 +67,7 @@ impl<M: EventModel> Engine<M, SHARE> {
         ensures accepted { IfOk result (λ _. self.new.arrived ≡ []) }
         ensures refused { IfErr result (λ fault. ((fault ≡ Memory) × (self.new ≡ self.old)) ⊎ ((fault ≡ NotLawful) × IsHeldMail self.old self.new)) }
     {
-        match &mut self.kind {
+        match &mut *self.kind {
             Kind::Kernel(_) => unreachable!(),
             Kind::Share(share) => share.accept_all(model),
         }
@@ -73,7 +78,7 @@ impl<M: EventModel> Engine<M, SHARE> {
     pub fn take_hints(&mut self) -> (usize, usize, u64)
         ensures { self.new ≡ self.old }
     {
-        match &mut self.kind {
+        match &mut *self.kind {
             Kind::Kernel(_) => unreachable!(),
             Kind::Share(share) => share.take_hints(),
         }

@@ -27,7 +27,7 @@ impl<M: EventModel> Engine<M, KERNEL> {
         ensures unchanged { (part : Part _) → StandsFor (M.handlers model.now) self.old part → IfErr result (λ fault. self.new ≡ self.old) }
         ensures same { (self.new.worker ≡ self.old.worker) × (self.new.config ≡ self.old.config) }
     {
-        match &mut self.kind {
+        match &mut *self.kind {
             Kind::Kernel(kernel) => kernel.execute(alloc, model, lp),
             Kind::Share(_) => unreachable!(),
         }
@@ -42,7 +42,7 @@ impl<M: EventModel> Engine<M, KERNEL> {
         ensures kept { IfErr result (λ fault. (fault ≡ NotLawful) × (self.new ≡ self.old)) }
         ensures same { (self.new.worker ≡ self.old.worker) × (self.new.config ≡ self.old.config) }
     {
-        match &mut self.kind {
+        match &mut *self.kind {
             Kind::Kernel(kernel) => kernel.undo(model, lp),
             Kind::Share(_) => unreachable!(),
         }
@@ -57,7 +57,7 @@ impl<M: EventModel> Engine<M, KERNEL> {
         ensures kept { IfErr result (λ fault. (fault ≡ NotLawful) × (self.new ≡ self.old)) }
         ensures same { (self.new.worker ≡ self.old.worker) × (self.new.config ≡ self.old.config) }
     {
-        match &mut self.kind {
+        match &mut *self.kind {
             Kind::Kernel(kernel) => kernel.cancel(lp, stamp),
             Kind::Share(_) => unreachable!(),
         }
@@ -72,7 +72,7 @@ impl<M: EventModel> Engine<M, KERNEL> {
         ensures kept { IfErr result (λ fault. (fault ≡ NotLawful) × (self.new ≡ self.old)) }
         ensures same { (self.new.worker ≡ self.old.worker) × (self.new.config ≡ self.old.config) }
     {
-        match &mut self.kind {
+        match &mut *self.kind {
             Kind::Kernel(kernel) => kernel.home(),
             Kind::Share(_) => unreachable!(),
         }
@@ -88,7 +88,7 @@ impl<M: EventModel> Engine<M, KERNEL> {
         ensures kept { IfErr result (λ fault. self.new ≡ self.old) }
         ensures same { (self.new.worker ≡ self.old.worker) × (self.new.config ≡ self.old.config) }
     {
-        match &mut self.kind {
+        match &mut *self.kind {
             Kind::Kernel(kernel) => kernel.accept(alloc, i),
             Kind::Share(_) => unreachable!(),
         }
@@ -100,7 +100,7 @@ impl<M: EventModel> Engine<M, KERNEL> {
         ensures settles { (part : Part _) → StandsFor (M.handlers model.now) self.old part → (new : Part _) × SettlesTo (simulation_of (M.handlers model.now) self.old.config) self.old.worker lp part new result × StandsFor (M.handlers model.now) self.new new }
         ensures same { (self.new.worker ≡ self.old.worker) × (self.new.config ≡ self.old.config) }
     {
-        match &mut self.kind {
+        match &mut *self.kind {
             Kind::Kernel(kernel) => kernel.settle(model, lp),
             Kind::Share(_) => unreachable!(),
         }

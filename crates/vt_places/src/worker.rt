@@ -65,6 +65,23 @@ pub struct NotMade<P> {
     pub place: Place<P>,
 }
 
+/// The kernel of worker `w` at the opening.
+fn open<M: EventModel>(
+    alloc: Global,
+    model: &M,
+    config: Config,
+    w: u32,
+) -> Result<Engine<M, KERNEL>, Fault>
+    requires known { w < config.workers }
+    ensures opening { IfOk result (λ k. StandsFor (M.handlers model.now) k (opening_part (simulation_of (M.handlers model.now) config) 0 w)) }
+    ensures made { IfOk result (λ k. (k.worker ≡ w) × (k.config ≡ config)) }
+    ensures refused { IfErr result (λ fault. fault ≡ Memory) }
+{
+    let kernel = Kernel::new(alloc, model, config, w)?;
+    let engine = Engine::of(alloc, kernel)?;
+    Ok(engine)
+}
+
 impl<'a, M: EventModel> Worker<'a, M> {
     /// Worker `w` with its kernel at the opening, at the place that the station made for it.
     ///
@@ -84,14 +101,14 @@ impl<'a, M: EventModel> Worker<'a, M> {
             × (made.view ≡ place_view place) × (made.kernel.worker ≡ w) × (made.kernel.config ≡ config) × StandsFor (M.handlers model.now) made.kernel (opening_part (simulation_of (M.handlers model.now) config) 0 w)) }
         ensures refused { IfErr result (λ not. (not.fault ≡ Memory) × (not.place ≡ place)) }
     {
-        match Kernel::new(alloc, model, config, w) {
+        match open(alloc, model, config, w) {
             Ok(kernel) => Ok(Worker {
                 alloc,
                 station,
                 model,
                 config,
                 place,
-                kernel: Engine::of(kernel),
+                kernel,
             }),
             Err(fault) => Err(NotMade { fault, place }),
         }

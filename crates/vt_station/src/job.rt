@@ -6,6 +6,8 @@ ghost use Rattle.vt_key.specs.declared.fault.Fault.TheVariants.{Memory, Busy, No
 ghost use Rattle.vt_model.specs.promise.Simulation.{simulation_of};
 ghost use Rattle.vt_model.specs.promise.Sequential.{seq_records};
 ghost use Rattle.vt_model.specs.promise.Settings.{end_of};
+ghost use Rattle.vt_steps.specs.promise.World.{opening_part};
+ghost use Rattle.vt_pool.specs.inside.Steps.{IsLedFrom};
 ghost use Rattle.vt_steps.specs.inside.Finals.{final_value};
 ghost use Rattle.vt_station.specs.declared.driver.Outcome.TheVariants.{Spent, Closed};
 ghost use Rattle.vt_station.specs.declared.job.Post.TheVariants.{Begun};
@@ -20,7 +22,7 @@ use crate::gate::Gate;
 use std::alloc::Global;
 use std::marker::Model;
 use std::sync::Wait;
-use vt_engine::Engine;
+use vt_engine::{Engine, SHARE};
 use vt_key::Fault;
 use vt_model::{Config, Model as EventModel, Record};
 use vt_places::{Place, Station};
@@ -81,6 +83,23 @@ impl<'a, M: EventModel> Model for Job<'a, M> {
     ghost invariant = { λ j. IsJob M.handlers (station_model j.station.now) (station_config j.station.now) (station_table j.station.now) j.model.now j.config j.worker j.post j.outcome (option_map (λ v. v.items) j.finals) };
 }
 
+/// The kernel of a worker at the opening.
+fn open<M: EventModel>(
+    alloc: Global,
+    model: &M,
+    config: Config,
+    worker: u32,
+) -> Result<Engine<M, SHARE>, Fault>
+    requires known { worker < config.workers }
+    ensures opening { IfOk result (λ k. IsLedFrom (M.handlers model.now) k (opening_part (simulation_of (M.handlers model.now) config) 0 worker) k) }
+    ensures made { IfOk result (λ k. (k.worker ≡ worker) × (k.config ≡ config)) }
+    ensures refused { IfErr result (λ fault. fault ≡ Memory) }
+{
+    let share = Share::new(alloc, model, config, worker)?;
+    let engine = Engine::of_share(alloc, share)?;
+    Ok(engine)
+}
+
 /// The worker at its post, with its kernel. If it has none, its post as it was, and the fault if memory for one was refused.
 fn begin<'a, M: EventModel>(
     alloc: Global,
@@ -99,11 +118,8 @@ fn begin<'a, M: EventModel>(
 {
     match post {
         Post::Begun(driver) => Ok(driver),
-        Post::New(place) => match Share::new(alloc, model, config, worker) {
-            Ok(share) => {
-                let engine = Engine::of_share(share);
-                Ok(Driver::new(alloc, station, model, config, place, engine, bells))
-            }
+        Post::New(place) => match open(alloc, model, config, worker) {
+            Ok(kernel) => Ok(Driver::new(alloc, station, model, config, place, kernel, bells)),
             Err(fault) => Err((Post::New(place), Some(fault))),
         },
         Post::Left(place) => Err((Post::Left(place), None)),

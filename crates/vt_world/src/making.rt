@@ -117,7 +117,8 @@ fn open_workers<M: EventModel>(
     let mut kernels = Vec::new(alloc);
     for w in 0..config.workers {
         let kernel = Kernel::with_serial(alloc, model, config, w, serial)?;
-        let Ok(()) = kernels.push(Engine::of(kernel)) else {
+        let engine = Engine::of(alloc, kernel)?;
+        let Ok(()) = kernels.push(engine) else {
             return Err(Fault::Memory);
         };
     }

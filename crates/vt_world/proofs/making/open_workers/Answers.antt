@@ -23,7 +23,7 @@ loop-w-preserved g c =
     let items = c.loop-w.kernels.items in
     let k : HeldWorker _ _ _ = c.in_ok-kernel.kernel in
     let made = c.in_ok-kernel.ensures.made in
-    let pushed : c.push.new.self.items ≡ items ++ k ∷ [] = c.in-Ok.ensures.items ∙ ap (λ (x : HeldWorker _ _ _). items ++ x ∷ []) c.of.ensures in
+    let pushed : c.push.new.self.items ≡ items ++ k ∷ [] = c.in-Ok.ensures.items ∙ ap (λ (x : HeldWorker _ _ _). items ++ x ∷ []) c.in_ok-engine.ensures.made in
     let longer = length_push items k in
     let counted : length c.push.new.self.items ≡ length (items ++ k ∷ []) = ap length pushed in
     let here : w ≡ 0 + length items = (let n = inv.count in omega (arith, n)) in

@@ -11,4 +11,4 @@ execute_next-requires-send-M-Payload g c κs within = record { owned = c.type_bo
 pub returns-clause-executed : goal.returns-clause-executed
 returns-clause-executed g c =
     subst (λ (k : HeldWorker _ _ _). IfOk c.execute_next.result (λ done. done ≡ true → ExecutesNext (g.M.Model.handlers c.args.model.now) k c.execute_next.new.self))
-    (sym (ap (λ (k : Kind _ _ _ _). held_of k) c.in-Share.is) ∙ c.self.view_is) c.execute_next.ensures.executed
+    (sym (ap (λ (k : Kind _ _ _ _). held_of k) c.in-Share.is) ∙ ap (λ (k : Kind _ _ _ _). held_of k) c.deref_mut.ensures.value ∙ c.self.view_is) c.execute_next.ensures.executed

@@ -13,4 +13,4 @@ pub returns-clause-refused : goal.returns-clause-refused
 returns-clause-refused g c handlers =
     subst (λ (k : HeldWorker _ _ _). (part : Part _) → StandsFor handlers k part → IfErr c.accept.result (λ fault. IsAcceptRefusal
     (local_step (simulation_of handlers k.config) k.worker (Accept k.worker c.args.i) part) fault))
-    (sym (ap (λ (k : Kind _ _ _ _). held_of k) c.in-Kernel.is) ∙ c.self.view_is) (c.accept.ensures.refused handlers)
+    (sym (ap (λ (k : Kind _ _ _ _). held_of k) c.in-Kernel.is) ∙ ap (λ (k : Kind _ _ _ _). held_of k) c.deref_mut.ensures.value ∙ c.self.view_is) (c.accept.ensures.refused handlers)

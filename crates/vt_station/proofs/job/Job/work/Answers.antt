@@ -13,11 +13,11 @@ use Rattle.vt_station.specs.declared.driver.Outcome.TheVariants.{Refused}
 use Rattle.vt_station.specs.inside.Turns.{HasEnded}
 use Rattle.vt_station.proofs.JobLemmas.{stands-taken, stands-from, not-begun, view-from, stands-on, same-job}
 use Rattle.vt_station.proofs.job.Job.work.Given.{Over}
-use Rattle.vt_station.proofs.job.Job.work.Goals.{in-Some+in-New-1, in-Some+in-Begun+in-Kernel-1, in-Some+in-Begun+in-Share-1, in-Some+in-Left-1, in-None-2, in-Some-fault, in_default-fault, in-Some+in-New-2, in-Some+in-Begun+in-Kernel-2, in-Some+in-Begun+in-Share-2, in-Some+in-Left-2, in-None-3}
+use Rattle.vt_station.proofs.job.Job.work.Goals.{in-Some+in-New-1, in-Some+in-Begun-1, in-Some+in-Left-1, in-None-2, in-Some-fault, in_default-fault, in-Some+in-New-2, in-Some+in-Begun-2, in-Some+in-Left-2, in-None-3}
 use Rattle.vt_station.proofs.job.Job.work.Goals as goal
 
-pub invariant_of-self-in-Ok-5 : goal.invariant_of-self-in-Ok-5
-invariant_of-self-in-Ok-5 g c =
+pub invariant_of-self-in-Ok-4 : goal.invariant_of-self-in-Ok-4
+invariant_of-self-in-Ok-4 g c =
     let i = c.self.inside in
     let before = c.self.invariant in
     let begun = c.in-Ok.ensures.begun in
@@ -44,8 +44,8 @@ invariant_of-self-in-Ok-5 g c =
 abbrev HoldsAt : (g : Over) → Post g.row.M.Denot g.row.M-State.Denot g.row.M-Payload.Denot g.row.M-Kept.Denot → Inside g.row.M.Denot g.row.M-State.Denot g.row.M-Payload.Denot g.row.M-Kept.Denot → Type 0
 HoldsAt g there i = IsJob g.M.Model.handlers (station_model i.station.now) (station_config i.station.now) (station_table i.station.now) i.model.now i.config i.worker (Some there) i.outcome (option_map (λ v. v.items) i.finals)
 
-pub invariant_of-self-after-fault-5 : goal.invariant_of-self-after-fault-5
-invariant_of-self-after-fault-5 g c =
+pub invariant_of-self-after-fault-4 : goal.invariant_of-self-after-fault-4
+invariant_of-self-after-fault-4 g c =
     let i = c.self.inside in
     let before = c.self.invariant in
     let post = c.in-Err.post in
@@ -64,8 +64,7 @@ pub returns-in-Ok : goal.returns-in-Ok
 returns-in-Ok g c =
     elim c.match-self.branch [
       | in-Some+in-New-1 w ↦ record { same = same-job c.self.view_is w.self-is (refl, refl, refl, refl) }
-      | in-Some+in-Begun+in-Kernel-1 w ↦ record { same = same-job c.self.view_is w.self-is (refl, refl, refl, refl) }
-      | in-Some+in-Begun+in-Share-1 w ↦ record { same = same-job c.self.view_is w.self-is (refl, refl, refl, refl) }
+      | in-Some+in-Begun-1 w ↦ record { same = same-job c.self.view_is w.self-is (refl, refl, refl, refl) }
       | in-Some+in-Left-1 w ↦ record { same = same-job c.self.view_is w.self-is (refl, refl, refl, refl) }
       | in-None-2 w ↦ record { same = same-job c.self.view_is w.self-is (refl, refl, refl, refl) }
     ]
@@ -81,8 +80,7 @@ returns-after-fault g c =
     ] in
     elim c.match-self-3.branch [
       | in-Some+in-New-2 w ↦ record { same = same-job c.self.view_is w.self-is same }
-      | in-Some+in-Begun+in-Kernel-2 w ↦ record { same = same-job c.self.view_is w.self-is same }
-      | in-Some+in-Begun+in-Share-2 w ↦ record { same = same-job c.self.view_is w.self-is same }
+      | in-Some+in-Begun-2 w ↦ record { same = same-job c.self.view_is w.self-is same }
       | in-Some+in-Left-2 w ↦ record { same = same-job c.self.view_is w.self-is same }
       | in-None-3 w ↦ record { same = same-job c.self.view_is w.self-is same }
     ]
