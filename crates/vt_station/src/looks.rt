@@ -1,49 +1,95 @@
 //! How long a worker looks at its bell before it sleeps.
+//!
+//! A worker that sleeps has to be woken, and then rings late itself. Where that takes longer than the others look, they sleep too, and so
+//! on in every round, though each processor is free: such a run takes ten times as long and more. So a worker begins *patient*: it looks
+//! longer than a round takes in which all have to be woken. On a busy machine patience takes processors from those that it waits for. So
+//! where it wasn't enough the worker is impatient until it has slept some times: twice as many after each time that it wasn't, and half as many
+//! after some waits in which it was.
+//!
+//! `bench/parallel --set dense --late 1` measures it where woken workers begin late, `--loops 4` on a busy machine.
 
-/// The most looks. After each the processor pauses, for 5 to 50 nanoseconds by its kind. So they take some 20 to 200 microseconds, in which
-/// another worker makes a turn or more. A worker mostly waits for no more than that.
+/// How often a patient worker looks. After each look the processor pauses, for 5 to 50 nanoseconds by its kind: some 1 to 10 milliseconds.
+const PATIENT: u32 = 200_000;
+
+/// The most looks of an impatient worker: 20 to 200 microseconds, in which another worker makes a turn or more.
 const MOST: u32 = 4_000;
 
-/// The fewest looks. They are few, so that on a busy machine a worker sleeps nearly at once.
+/// The fewest looks of an impatient worker. They are few, so that on a busy machine it sleeps nearly at once.
 const LEAST: u32 = 100;
 
-/// After so many sleeps in a row a worker looks once more as long as at first. Workers that sleep make each other sleep, since one that has to
-/// be woken rings later than the fewest looks end: without this they go on so for seconds on processors that are free again.
-const MANY_SLEEPS: u32 = 32;
+/// The fewest sleeps after which an impatient worker is patient again.
+const FEW_SLEEPS: u32 = 8;
 
-/// How often a worker looks at its bell before it sleeps: halved after each sleep, doubled after each wait without one.
+/// The most sleeps after which an impatient worker is patient again.
+const MANY_SLEEPS: u32 = 4_096;
+
+/// After so many waits in a row in which patience was enough, half as many sleeps do.
+const CALM: u32 = 16;
+
+/// How often a worker looks at its bell before it sleeps.
 #[derive(Drop)]
 pub(crate) struct Looks {
+    is_patient: bool,
+    // Waits in a row in which patience was enough.
+    calm: u32,
+    // The looks while impatient: halved after each sleep, doubled after each wait without one.
     count: u32,
-    // How many waits in a row have ended in a sleep, since the worker looked longest.
+    // How many sleeps there were while impatient, and how many make patient again.
     sleeps: u32,
+    enough: u32,
 }
 
 impl Looks {
-    /// The most looks.
+    /// Those of a worker that begins.
     pub(crate) fn new() -> Looks {
         Looks {
+            is_patient: true,
+            calm: 0,
             count: MOST,
             sleeps: 0,
+            enough: FEW_SLEEPS,
         }
     }
 
     /// How many they are.
     pub(crate) fn count(&self) -> u32 {
-        self.count
+        if self.is_patient { PATIENT } else { self.count }
     }
 
     /// Adapts them to a wait that is over.
     pub(crate) fn adapt(&mut self, slept: bool) {
-        if !slept {
+        match (self.is_patient, slept) {
+            (true, true) => self.lose_patience(),
+            (true, false) => self.calm_down(),
+            (false, true) => self.sleep(),
+            (false, false) => self.count = self.count.saturating_mul(2).min(MOST),
+        }
+    }
+
+    // Patience wasn't enough.
+    fn lose_patience(&mut self) {
+        self.is_patient = false;
+        self.calm = 0;
+        self.count = LEAST;
+        self.enough = self.enough.saturating_mul(2).min(MANY_SLEEPS);
+    }
+
+    // Patience was enough.
+    fn calm_down(&mut self) {
+        self.calm = self.calm.saturating_add(1);
+        if self.calm >= CALM {
+            self.calm = 0;
+            self.enough = (self.enough / 2).max(FEW_SLEEPS);
+        }
+    }
+
+    // The impatient worker slept.
+    fn sleep(&mut self) {
+        self.count = (self.count / 2).max(LEAST);
+        self.sleeps = self.sleeps.saturating_add(1);
+        if self.sleeps >= self.enough {
             self.sleeps = 0;
-            self.count = self.count.saturating_mul(2).min(MOST);
-        } else if self.sleeps >= MANY_SLEEPS {
-            self.sleeps = 0;
-            self.count = MOST;
-        } else {
-            self.sleeps += 1;
-            self.count = (self.count / 2).max(LEAST);
+            self.is_patient = true;
         }
     }
 }
