@@ -54,17 +54,17 @@ impl Pages {
     }
 }
 
-/// The word at this place of a line, or an empty one.
+/// The word at this index of a line, or an empty one.
 pub(crate) fn word(line: &str, at: usize) -> &str {
     line.split_ascii_whitespace().nth(at).unwrap_or("")
 }
 
-/// The number at this place of a line, or 0.
+/// The number at this index of a line, or 0.
 pub(crate) fn number(line: &str, at: usize) -> u64 {
     word(line, at).parse::<u64>().unwrap_or(0)
 }
 
-/// The number of a process, a worker or the like at this place of a line, or 0.
+/// The number of a process, a worker or the like at this index of a line, or 0.
 pub(crate) fn index(line: &str, at: usize) -> u32 {
     word(line, at).parse::<u32>().unwrap_or(0)
 }
@@ -74,7 +74,7 @@ pub(crate) fn tick(line: &str, at: usize) -> When {
     When::tick(number(line, at))
 }
 
-/// The stamp of a worker and a serial from this place of a line on.
+/// The stamp of a worker and a serial from this index of a line on.
 pub(crate) fn stamp(line: &str, at: usize) -> Stamp {
     Stamp {
         worker: index(line, at),

@@ -15,7 +15,7 @@ use vt_models::{Hop, JobEvent, Server, Stations, Token};
 
 /// A model whose payloads and states have words.
 trait Spoken: EventModel + Copy + Drop {
-    /// The payload that the words of a line from this place on say.
+    /// The payload that the words of a line from this index on say.
     fn payload(line: &str, at: usize) -> Self::Payload;
 
     fn tell_state(page: &mut Page, state: &Self::State);

@@ -54,8 +54,8 @@ fn steps_of(line: &str) -> Steps {
     };
     for line in list.split(',') {
         let count = steps.count;
-        if let Some(place) = steps.all.get_mut(count) {
-            *place = step_of(line);
+        if let Some(step) = steps.all.get_mut(count) {
+            *step = step_of(line);
             steps.count = count.saturating_add(1);
         }
     }
@@ -63,7 +63,7 @@ fn steps_of(line: &str) -> Steps {
 }
 
 impl Steps {
-    // Those before a place, and those from there on.
+    // Those before an index, and those from there on.
     fn parts(&self, at: usize) -> (&[Step], &[Step]) {
         let (all, _) = self.all.split_at_checked(self.count).unwrap_or((&[], &[]));
         all.split_at_checked(at).unwrap_or((all, &[]))

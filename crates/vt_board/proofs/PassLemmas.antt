@@ -9,7 +9,7 @@ use Rattle.vt_steps.specs.promise.World.{Board}
 use Rattle.vt_steps.specs.promise.BoardSteps.{all_set, with_new_pass, with_announcement, with_report, BoardEffect, after_report}
 use Rattle.vt_steps.proofs.steps.Outcomes.{after_report-either}
 use Rattle.vt_steps.proofs.time.Flags.{set-at, may-tells}
-use Rattle.vt_steps.proofs.lists.Places.{get-put_same, get-put_other, get-within}
+use Rattle.vt_steps.proofs.lists.Indices.{get-put_same, get-put_other, get-within}
 use Rattle.vt_board.specs.inside.Passes.{WorkerReport, with_one_more, heard, board_after_all, AreAwaited, least_reported, times_reported, all_sent, all_got, ArePassesClosedBySums}
 
 -- ---- one report

@@ -66,13 +66,13 @@ module _ {S P : Type 0} (sim : Simulation S P) (lawful : IsLawful sim) (from to 
       (front-below to process.past)))
 
   -- and of all processes of a worker
-  processes-between : (w place : ℕ) (processes : List (LogicalProcess P)) → ((i : ℕ) (process : LogicalProcess P) → slice_get processes i ≡ Some process → AreNotBefore from process.past)
-      → AllByRecursion (IsBetween from to) (rows_of_processes sim w to place processes)
-  processes-between w place [] late = tt
-  processes-between w place (process ∷ processes) late =
-      every-append (IsBetween from to) (ripe_rows sim (process_at sim w place) to process) (rows_of_processes sim w to (place + 1) processes)
-      (process-between (process_at sim w place) process (late 0 process refl))
-      (processes-between w (place + 1) processes (λ i q at. late (suc i) q at))
+  processes-between : (w index : ℕ) (processes : List (LogicalProcess P)) → ((i : ℕ) (process : LogicalProcess P) → slice_get processes i ≡ Some process → AreNotBefore from process.past)
+      → AllByRecursion (IsBetween from to) (rows_of_processes sim w to index processes)
+  processes-between w index [] late = tt
+  processes-between w index (process ∷ processes) late =
+      every-append (IsBetween from to) (ripe_rows sim (process_at sim w index) to process) (rows_of_processes sim w to (index + 1) processes)
+      (process-between (process_at sim w index) process (late 0 process refl))
+      (processes-between w (index + 1) processes (λ i q at. late (suc i) q at))
 
 -- in a reached world, the rows that a worker hands in are not before its hand-in floor, and before its floor
 pub commit-between : {S P : Type 0} (sim : Simulation S P) (lawful : IsLawful sim) (serial : ℕ) (steps : List Step) (w : ℕ) (part : Part P) (handed_in : Time)

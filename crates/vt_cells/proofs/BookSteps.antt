@@ -24,7 +24,7 @@ use Rattle.vt_steps.specs.promise.BookSteps.{may_commit, with_rows, may_close, c
 use Rattle.vt_steps.specs.promise.Next.{reached}
 use Rattle.vt_steps.specs.inside.Cells.{Cell, Acted, in_book, left_alone, act}
 use Rattle.vt_steps.proofs.time.Floors.{AreTimesSound, reached-times}
-use Rattle.vt_steps.proofs.lists.Places.{get-within}
+use Rattle.vt_steps.proofs.lists.Indices.{get-within}
 use Rattle.vt_kernel.specs.inside.Held.{HeldWorker, StandsFor}
 use Rattle.vt_book.specs.inside.Books.{RunBook, may_hand, is_within, are_within, refusal_of_hand, refusal_where}
 use Rattle.vt_book.proofs.CommitRows.{IsBetween, commit-between}

@@ -13,7 +13,7 @@ use Rattle.vt_steps.specs.inside.Cells.{CellName, board_cell, Cell, on_board, co
 use Rattle.vt_steps.specs.inside.Laws.{IsAny}
 use Rattle.vt_steps.proofs.steps.CellLemmas.{next-acts_on_one_cell}
 use Rattle.vt_steps.proofs.steps.LocalLeads.{parts-put}
-use Rattle.vt_steps.proofs.lists.Places.{get-put_same}
+use Rattle.vt_steps.proofs.lists.Indices.{get-put_same}
 use Rattle.vt_kernel.specs.promise.Refusals.{PassesIn, PassesLimit, IsStepRefusal}
 use Rattle.vt_kernel.proofs.LimitLemmas.{passes-world, passes-part}
 use Rattle.vt_cells.specs.inside.Calls.{rounds_of, IsCellRefusal}

@@ -49,19 +49,19 @@ module _ {S P K : Type 0} (floor : Time) where
     pub left : (k : ℕ) (d : HeldProcess S P K) → from ≤ k → slice_index_or now k d ≡ slice_index_or old k d
 
   -- and the next one has
-  pub forgotten-more : (place : ℕ) (old now : List (HeldProcess S P K)) (q new : HeldProcess S P K) → HaveForgotten place old now → place < length old → slice_get now place ≡ Some q
-      → IsForgotten floor q new → HaveForgotten (place + 1) old (slice_set now place new)
-  forgotten-more place old now q new h less at f =
+  pub forgotten-more : (index : ℕ) (old now : List (HeldProcess S P K)) (q new : HeldProcess S P K) → HaveForgotten index old now → index < length old → slice_get now index ≡ Some q
+      → IsForgotten floor q new → HaveForgotten (index + 1) old (slice_set now index new)
+  forgotten-more index old now q new h less at f =
       let count = h.count in
-      let here = λ (d : HeldProcess S P K). subst (λ (x : HeldProcess S P K). IsForgotten floor x new) (sym (get_or_from_slice_get now place q d at) ∙ h.left place d (omega arith)) f in
+      let here = λ (d : HeldProcess S P K). subst (λ (x : HeldProcess S P K). IsForgotten floor x new) (sym (get_or_from_slice_get now index q d at) ∙ h.left index d (omega arith)) f in
       record {
-        count = length-set now place new ∙ count;
+        count = length-set now index new ∙ count;
         within = omega (arith, less);
-        forgotten = λ k d before. below_more (λ (n : ℕ). IsForgotten floor (slice_index_or old n d) (slice_index_or (slice_set now place new) n d)) place
-            (λ n below. let other : n ≢ place = omega arith in subst (IsForgotten floor (slice_index_or old n d)) (sym (get_or-set_other now place n new d other)) (h.forgotten n d below))
-            (subst (IsForgotten floor (slice_index_or old place d)) (sym (get_or-set_same now place new d (omega (arith, count, less)))) (here d))
+        forgotten = λ k d before. below_more (λ (n : ℕ). IsForgotten floor (slice_index_or old n d) (slice_index_or (slice_set now index new) n d)) index
+            (λ n below. let other : n ≢ index = omega arith in subst (IsForgotten floor (slice_index_or old n d)) (sym (get_or-set_other now index n new d other)) (h.forgotten n d below))
+            (subst (IsForgotten floor (slice_index_or old index d)) (sym (get_or-set_same now index new d (omega (arith, count, less)))) (here d))
             k before;
-        left = λ k d more. let other : k ≢ place = omega arith in get_or-set_other now place k new d other ∙ h.left k d (omega arith);
+        left = λ k d more. let other : k ≢ index = omega arith in get_or-set_other now index k new d other ∙ h.left k d (omega arith);
       }
 
   pub stand-forgotten : (handlers : Handlers S P K) (config : Config) (w base : ℕ) (xs ys : List (HeldProcess S P K)) (processes : List (LogicalProcess P))
@@ -145,20 +145,20 @@ module _ {S P K : Type 0} (handlers : Handlers S P K) where
   same-length sim w base (x ∷ xs) (q ∷ qs) h = ap suc (same-length sim w (base + 1) xs qs h.1)
 
   -- the process of a part that a worker's process stands for
-  pub record IsStoodFor (held : HeldWorker S P K) (part : Part P) (place : ℕ) (q : HeldProcess S P K) : Type 0 where
+  pub record IsStoodFor (held : HeldWorker S P K) (part : Part P) (index : ℕ) (q : HeldProcess S P K) : Type 0 where
     pub process : LogicalProcess P
-    pub there : slice_get part.processes place ≡ Some process
+    pub there : slice_get part.processes index ≡ Some process
     pub stands : ProcessStandsFor handlers q process
-    pub lp : q.lp ≡ process_at (simulation_of handlers held.config) held.worker place
+    pub lp : q.lp ≡ process_at (simulation_of handlers held.config) held.worker index
     pub config : q.config ≡ held.config
 
-  pub stood_for : (held : HeldWorker S P K) (part : Part P) (place : ℕ) (q : HeldProcess S P K) → StandsFor handlers held part →
-      AreProcesses held.config held.worker 0 held.processes → slice_get held.processes place ≡ Some q → IsStoodFor held part place q
-  stood_for held part place q s are at =
+  pub stood_for : (held : HeldWorker S P K) (part : Part P) (index : ℕ) (q : HeldProcess S P K) → StandsFor handlers held part →
+      AreProcesses held.config held.worker 0 held.processes → slice_get held.processes index ≡ Some q → IsStoodFor held part index q
+  stood_for held part index q s are at =
       let sim = simulation_of handlers held.config in
-      let here = stands-at sim held.worker 0 place (map (process_memory handlers) held.processes) part.processes (process_memory handlers q) s.processes (get-map_of (process_memory handlers) held.processes place q at) in
-      let who = process-at held.config held.worker 0 place held.processes q are at in
-      let plain : 0 + place ≡ place = omega arith in
+      let here = stands-at sim held.worker 0 index (map (process_memory handlers) held.processes) part.processes (process_memory handlers q) s.processes (get-map_of (process_memory handlers) held.processes index q at) in
+      let who = process-at held.config held.worker 0 index held.processes q are at in
+      let plain : 0 + index ≡ index = omega arith in
       let stands : StandsForProcess sim q.lp (process_memory handlers q) here.0 = subst (λ (k : ℕ). StandsForProcess sim k (process_memory handlers q) here.0) (sym who.0) here.2 in
       record {
         process = here.0;
@@ -169,21 +169,21 @@ module _ {S P K : Type 0} (handlers : Handlers S P K) where
       }
 
   -- the rows of one process more
-  pub rows-next : (held : HeldWorker S P K) (part : Part P) (place : ℕ) (q : HeldProcess S P K) (rows more : List Row) → StandsFor handlers held part →
-      AreProcesses held.config held.worker 0 held.processes → slice_get held.processes place ≡ Some q →
-      rows ≡ rows_of_processes (simulation_of handlers held.config) held.worker held.floor 0 (take place part.processes) →
+  pub rows-next : (held : HeldWorker S P K) (part : Part P) (index : ℕ) (q : HeldProcess S P K) (rows more : List Row) → StandsFor handlers held part →
+      AreProcesses held.config held.worker 0 held.processes → slice_get held.processes index ≡ Some q →
+      rows ≡ rows_of_processes (simulation_of handlers held.config) held.worker held.floor 0 (take index part.processes) →
       ((h : LogicalProcess P) → ProcessStandsFor handlers q h → more ≡ rows ++ ripe_rows (simulation_of handlers q.config) q.lp held.floor h) →
-      more ≡ rows_of_processes (simulation_of handlers held.config) held.worker held.floor 0 (take (place + 1) part.processes)
-  rows-next held part place q rows more s are at so_far ripe =
+      more ≡ rows_of_processes (simulation_of handlers held.config) held.worker held.floor 0 (take (index + 1) part.processes)
+  rows-next held part index q rows more s are at so_far ripe =
       let sim = simulation_of handlers held.config in
-      let found = stood_for held part place q s are at in
+      let found = stood_for held part index q s are at in
       let p = found.process in
-      let within : place < length part.processes = slice_get_within part.processes place p found.there in
-      let longer : take (place + 1) part.processes ≡ take place part.processes ++ p ∷ [] =
-      take_more part.processes place p within ∙ ap (λ (x : LogicalProcess P). take place part.processes ++ x ∷ []) (get_or_from_slice_get part.processes place p p found.there) in
-      let long : 0 + length (take place part.processes) ≡ place = simp length-take (omega (arith, within)) in
+      let within : index < length part.processes = slice_get_within part.processes index p found.there in
+      let longer : take (index + 1) part.processes ≡ take index part.processes ++ p ∷ [] =
+      take_more part.processes index p within ∙ ap (λ (x : LogicalProcess P). take index part.processes ++ x ∷ []) (get_or_from_slice_get part.processes index p p found.there) in
+      let long : 0 + length (take index part.processes) ≡ index = simp length-take (omega (arith, within)) in
       ripe p found.stands
       ∙ (λ j. so_far j ++ ripe_rows (simulation_of handlers (found.config j)) (found.lp j) held.floor p)
-      ∙ ap (λ (n : ℕ). rows_of_processes sim held.worker held.floor 0 (take place part.processes) ++ ripe_rows sim (process_at sim held.worker n) held.floor p) (sym long)
-      ∙ sym (rows-more sim held.worker held.floor 0 (take place part.processes) p)
+      ∙ ap (λ (n : ℕ). rows_of_processes sim held.worker held.floor 0 (take index part.processes) ++ ripe_rows sim (process_at sim held.worker n) held.floor p) (sym long)
+      ∙ sym (rows-more sim held.worker held.floor 0 (take index part.processes) p)
       ∙ ap (rows_of_processes sim held.worker held.floor 0) (sym longer)

@@ -25,7 +25,7 @@ use Rattle.vt_outbox.specs.inside.Outbox.{HeldOutbox}
 use Rattle.vt_kernel.specs.inside.Held.{HeldWorker, StandsFor, AreProcesses, IsWorkerInside}
 use Rattle.vt_kernel.specs.inside.Guards.{IsDone}
 use Rattle.vt_kernel.proofs.OwnSteps.{at_own, own, own-step}
-use Rattle.vt_kernel.proofs.LocalLemmas.{IsOwnPlace, found-at, changed-done, changed-refused}
+use Rattle.vt_kernel.proofs.LocalLemmas.{IsOwnIndex, found-at, changed-done, changed-refused}
 
 -- and has what all have
 pub find-all : {X : Type 0} (Q : X → Type 0) (test : X → Bool) (xs : List X) (x : X) → All Q xs → find test xs ≡ Some x → Q x
@@ -78,20 +78,20 @@ module _ {S P K : Type 0} (handlers : Handlers S P K) (held : HeldWorker S P K) 
       ∙ ap (option_and_then (deliver (simulation_of handlers held.config) part-letter-left)) (ap (find (is_for (simulation_of handlers held.config).workers held.worker)) h.outbox ∙ there)
       ∙ sym (own (simulation_of handlers held.config) held.worker letter.event.dest (at_process (accept_process letter) (letter.event.dest / held.config.workers) part-letter-left) own_letter)
 
-  pub home-done : {letter : Letter P} {place : ℕ} {q : HeldProcess S P K} (new : HeldProcess S P K) → find (is_for (simulation_of handlers held.config).workers held.worker) held.outbox ≡ Some letter
-      → IsOwnPlace held.config held.worker letter.event.dest place → slice_get held.processes place ≡ Some q → (new.lp ≡ q.lp) × (new.config ≡ q.config)
+  pub home-done : {letter : Letter P} {index : ℕ} {q : HeldProcess S P K} (new : HeldProcess S P K) → find (is_for (simulation_of handlers held.config).workers held.worker) held.outbox ≡ Some letter
+      → IsOwnIndex held.config held.worker letter.event.dest index → slice_get held.processes index ≡ Some q → (new.lp ≡ q.lp) × (new.config ≡ q.config)
       → ((process : LogicalProcess P) → ProcessStandsFor handlers q process → ProcessIsDone handlers new (accept_process letter process) [] [] 0 0)
-      → IsDone handlers (record letter-left { processes = slice_set held.processes place new }) (local_step (simulation_of handlers held.config) held.worker (step.Home held.worker) part)
-  home-done {letter} {place} new there own_place at same done =
-      subst (IsDone handlers (record letter-left { processes = slice_set held.processes place new })) (sym (home-is there own_place.1))
-      (changed-done handlers letter-left are part-letter-left letter-left-stands new (accept_process letter) own_place at same done)
+      → IsDone handlers (record letter-left { processes = slice_set held.processes index new }) (local_step (simulation_of handlers held.config) held.worker (step.Home held.worker) part)
+  home-done {letter} {index} new there own_index at same done =
+      subst (IsDone handlers (record letter-left { processes = slice_set held.processes index new })) (sym (home-is there own_index.1))
+      (changed-done handlers letter-left are part-letter-left letter-left-stands new (accept_process letter) own_index at same done)
 
-  pub home-refused : {letter : Letter P} {place : ℕ} {q : HeldProcess S P K} → find (is_for (simulation_of handlers held.config).workers held.worker) held.outbox ≡ Some letter
-      → IsOwnPlace held.config held.worker letter.event.dest place → slice_get held.processes place ≡ Some q
+  pub home-refused : {letter : Letter P} {index : ℕ} {q : HeldProcess S P K} → find (is_for (simulation_of handlers held.config).workers held.worker) held.outbox ≡ Some letter
+      → IsOwnIndex held.config held.worker letter.event.dest index → slice_get held.processes index ≡ Some q
       → ((process : LogicalProcess P) → ProcessStandsFor handlers q process → accept_process letter process ≡ None)
       → local_step (simulation_of handlers held.config) held.worker (step.Home held.worker) part ≡ None
-  home-refused {letter} there own_place at none =
-      home-is there own_place.1 ∙ changed-refused handlers letter-left are part-letter-left letter-left-stands (accept_process letter) own_place at none
+  home-refused {letter} there own_index at none =
+      home-is there own_index.1 ∙ changed-refused handlers letter-left are part-letter-left letter-left-stands (accept_process letter) own_index at none
 
   pub home-nothing : find (is_for (simulation_of handlers held.config).workers held.worker) held.outbox ≡ None
       → local_step (simulation_of handlers held.config) held.worker (step.Home held.worker) part ≡ None
@@ -99,7 +99,7 @@ module _ {S P K : Type 0} (handlers : Handlers S P K) (held : HeldWorker S P K) 
       ap (λ (b : Bool). if b then home (simulation_of handlers held.config) held.worker part else None) (same-worker held.worker)
       ∙ ap (option_and_then (deliver (simulation_of handlers held.config) part-letter-left)) (ap (find (is_for (simulation_of handlers held.config).workers held.worker)) h.outbox ∙ none)
 
-  -- ---- Accept at place i
+  -- ---- Accept at index i
 
   module _ (i : ℕ) where
     -- the worker and its part without the mail there
@@ -121,31 +121,31 @@ module _ {S P K : Type 0} (handlers : Handlers S P K) (held : HeldWorker S P K) 
         ∙ ap (option_and_then (λ (mail : Mail P). deliver (simulation_of handlers held.config) part-mail-left mail.letter)) (ap (λ ms. slice_get ms i) h.arrived ∙ there)
         ∙ sym (own (simulation_of handlers held.config) held.worker mail.letter.event.dest (at_process (accept_process mail.letter) (mail.letter.event.dest / held.config.workers) part-mail-left) own_letter)
 
-    pub accept-done : {mail : Mail P} {place : ℕ} {q : HeldProcess S P K} (new : HeldProcess S P K) → slice_get held.arrived i ≡ Some mail
-        → IsOwnPlace held.config held.worker mail.letter.event.dest place → slice_get held.processes place ≡ Some q → (new.lp ≡ q.lp) × (new.config ≡ q.config)
+    pub accept-done : {mail : Mail P} {index : ℕ} {q : HeldProcess S P K} (new : HeldProcess S P K) → slice_get held.arrived i ≡ Some mail
+        → IsOwnIndex held.config held.worker mail.letter.event.dest index → slice_get held.processes index ≡ Some q → (new.lp ≡ q.lp) × (new.config ≡ q.config)
         → ((process : LogicalProcess P) → ProcessStandsFor handlers q process → ProcessIsDone handlers new (accept_process mail.letter process) [] [] 0 0)
-        → IsDone handlers (record mail-left { processes = slice_set held.processes place new }) (local_step (simulation_of handlers held.config) held.worker (step.Accept held.worker i) part)
-    accept-done {mail} {place} new there own_place at same done =
-        subst (IsDone handlers (record mail-left { processes = slice_set held.processes place new })) (sym (accept-is there own_place.1))
-        (changed-done handlers mail-left are part-mail-left mail-left-stands new (accept_process mail.letter) own_place at same done)
+        → IsDone handlers (record mail-left { processes = slice_set held.processes index new }) (local_step (simulation_of handlers held.config) held.worker (step.Accept held.worker i) part)
+    accept-done {mail} {index} new there own_index at same done =
+        subst (IsDone handlers (record mail-left { processes = slice_set held.processes index new })) (sym (accept-is there own_index.1))
+        (changed-done handlers mail-left are part-mail-left mail-left-stands new (accept_process mail.letter) own_index at same done)
 
-    pub accept-refused : {mail : Mail P} {place : ℕ} {q : HeldProcess S P K} → slice_get held.arrived i ≡ Some mail
-        → IsOwnPlace held.config held.worker mail.letter.event.dest place → slice_get held.processes place ≡ Some q
+    pub accept-refused : {mail : Mail P} {index : ℕ} {q : HeldProcess S P K} → slice_get held.arrived i ≡ Some mail
+        → IsOwnIndex held.config held.worker mail.letter.event.dest index → slice_get held.processes index ≡ Some q
         → ((process : LogicalProcess P) → ProcessStandsFor handlers q process → accept_process mail.letter process ≡ None)
         → local_step (simulation_of handlers held.config) held.worker (step.Accept held.worker i) part ≡ None
-    accept-refused {mail} there own_place at none =
-        accept-is there own_place.1 ∙ changed-refused handlers mail-left are part-mail-left mail-left-stands (accept_process mail.letter) own_place at none
+    accept-refused {mail} there own_index at none =
+        accept-is there own_index.1 ∙ changed-refused handlers mail-left are part-mail-left mail-left-stands (accept_process mail.letter) own_index at none
 
     -- of a letter that its process does not hold it is lawful
-    pub accept-lawful : {mail : Mail P} {place : ℕ} {q : HeldProcess S P K} → slice_get held.arrived i ≡ Some mail
-        → IsOwnPlace held.config held.worker mail.letter.event.dest place → slice_get held.processes place ≡ Some q
+    pub accept-lawful : {mail : Mail P} {index : ℕ} {q : HeldProcess S P K} → slice_get held.arrived i ≡ Some mail
+        → IsOwnIndex held.config held.worker mail.letter.event.dest index → slice_get held.processes index ≡ Some q
         → holds_letter q.pending q.waiting q.past mail.letter.sign mail.letter.event.rank ≡ false
         → (new : Part P) × (local_step (simulation_of handlers held.config) held.worker (step.Accept held.worker i) part ≡ Some new)
-    accept-lawful {mail} {place} {q} there own_place at new =
-        let f = found-at handlers mail-left are part-mail-left mail-left-stands own_place at in (
+    accept-lawful {mail} {index} {q} there own_index at new =
+        let f = found-at handlers mail-left are part-mail-left mail-left-stands own_index at in (
           with_effect part-mail-left (mail.letter.event.dest / held.config.workers) (accepted handlers f.process mail.letter.sign mail.letter),
-          accept-is there own_place.1
-              ∙ own-step (simulation_of handlers held.config) held.worker mail.letter.event.dest (accept_process mail.letter) part-mail-left f.process own_place.1 f.there
+          accept-is there own_index.1
+              ∙ own-step (simulation_of handlers held.config) held.worker mail.letter.event.dest (accept_process mail.letter) part-mail-left f.process own_index.1 f.there
               ∙ ap (option_map (with_effect part-mail-left (mail.letter.event.dest / held.config.workers))) (accept-by handlers q f.process mail.letter false new f.stands),
         )
 

@@ -11,13 +11,13 @@ use Rattle.vt_lp.specs.inside.Held.{HeldProcess, process_memory}
 use Rattle.vt_kernel.specs.inside.Held.{held_values, AreProcesses}
 
 module _ {S P K : Type 0} (handlers : Handlers S P K) (config : Config) (w : ℕ) where
-  pub values-stood : (place : ℕ) (held : List (HeldProcess S P K)) (processes : List (LogicalProcess P)) → AreProcesses config w place held
-      → StandForProcesses (simulation_of handlers config) w place (map (process_memory handlers) held) processes → held_values handlers held ≡ values_of_processes (simulation_of handlers config) w place processes
-  values-stood place [] [] are stand = refl
-  values-stood place [] (p ∷ ps) are stand = absurd stand
-  values-stood place (q ∷ qs) [] are stand = absurd stand
-  values-stood place (q ∷ qs) (p ∷ ps) are stand =
+  pub values-stood : (index : ℕ) (held : List (HeldProcess S P K)) (processes : List (LogicalProcess P)) → AreProcesses config w index held
+      → StandForProcesses (simulation_of handlers config) w index (map (process_memory handlers) held) processes → held_values handlers held ≡ values_of_processes (simulation_of handlers config) w index processes
+  values-stood index [] [] are stand = refl
+  values-stood index [] (p ∷ ps) are stand = absurd stand
+  values-stood index (q ∷ qs) [] are stand = absurd stand
+  values-stood index (q ∷ qs) (p ∷ ps) are stand =
       let sim = simulation_of handlers config in
-      let triple = sym (is_where sim (process_at sim w place) (process_memory handlers q) p stand.0) in
-      let rest = values-stood (place + 1) qs ps are.2 stand.1 in
+      let triple = sym (is_where sim (process_at sim w index) (process_memory handlers q) p stand.0) in
+      let rest = values-stood (index + 1) qs ps are.2 stand.1 in
       λ j. handlers.finish (are.0 j) (triple j).state ∷ rest j

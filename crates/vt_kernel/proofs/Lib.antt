@@ -9,7 +9,7 @@ pub mod InsideLemmas
 pub mod MakeLemmas
 pub mod PartLemmas
 pub mod PutLemmas
-pub mod PlaceLemmas
+pub mod IndexLemmas
 pub mod ReportLemmas
 pub mod SendLemmas
 pub mod TimeLemmas

@@ -32,18 +32,18 @@ flat-range f a (suc n) =
     ∙ ap (λ k. (f a ++ flat_map f (range_with_len (a + 1) n)) ++ f k) here
 
 module _ {S P : Type 0} (sim : Simulation S P) (w : ℕ) where
-  -- what the processes of the first places send at their starts
+  -- what the processes of the first indices send at their starts
   abbrev pub started_sends : ℕ → List (Sent P)
-  started_sends n = flat_map (λ place. (sim.start (process_at sim w place)).sends) (range_with_len 0 n)
+  started_sends n = flat_map (λ index. (sim.start (process_at sim w index)).sends) (range_with_len 0 n)
 
   pub started-more : (n : ℕ) → started_sends (suc n) ≡ started_sends n ++ (sim.start (process_at sim w n)).sends
   started-more n = let here : 0 + n ≡ n = omega arith in
-      flat-range (λ place. (sim.start (process_at sim w place)).sends) 0 n ∙ ap (λ k. started_sends n ++ (sim.start (process_at sim w k)).sends) here
+      flat-range (λ index. (sim.start (process_at sim w index)).sends) 0 n ∙ ap (λ k. started_sends n ++ (sim.start (process_at sim w k)).sends) here
 
   started-length : (n : ℕ) → length (started_sends (suc n)) ≡ length (started_sends n) + length (sim.start (process_at sim w n)).sends
   started-length n = ap length (started-more n) ∙ length-append (started_sends n) (sim.start (process_at sim w n)).sends
 
-  -- more places, more sends
+  -- more indices, more sends
   grows : (n k : ℕ) → length (started_sends n) ≤ length (started_sends (n + k))
   grows n zero = let same : n ≡ n + 0 = omega arith in subst (λ m. length (started_sends n) ≤ length (started_sends m)) same (omega arith)
   grows n (suc k) =
@@ -52,7 +52,7 @@ module _ {S P : Type 0} (sim : Simulation S P) (w : ℕ) where
       let same : suc (n + k) ≡ n + suc k = omega arith in
       subst (λ m. length (started_sends n) ≤ length (started_sends m)) same (omega (arith, rest, next))
 
-  -- with one place more it is not yet more than all
+  -- with one index more it is not yet more than all
   pub started-fits : (n : ℕ) → suc n ≤ process_count sim w →
       length (started_sends n) + length (sim.start (process_at sim w n)).sends ≤ length (start_sends sim w)
   started-fits n within =
@@ -62,10 +62,10 @@ module _ {S P : Type 0} (sim : Simulation S P) (w : ℕ) where
       let next = started-length n in
       omega (arith, all, next)
 
-  few-started : (each : (p : ℕ) → p < sim.lps → length (sim.start p).sends ≤ MAX_SENDS) → (n : ℕ) → ((place : ℕ) → place < n → process_at sim w place < sim.lps) → length (started_sends n) ≤ MAX_SENDS * n
+  few-started : (each : (p : ℕ) → p < sim.lps → length (sim.start p).sends ≤ MAX_SENDS) → (n : ℕ) → ((index : ℕ) → index < n → process_at sim w index < sim.lps) → length (started_sends n) ≤ MAX_SENDS * n
   few-started each zero known = omega arith
   few-started each (suc n) known =
-      let rest = few-started each n (λ place less. known place (omega arith)) in
+      let rest = few-started each n (λ index less. known index (omega arith)) in
       let next = started-length n in
       let last = each (process_at sim w n) (known n (omega arith)) in
       omega (arith, rest, next, last)
@@ -74,26 +74,26 @@ module _ {S P : Type 0} (sim : Simulation S P) (w : ℕ) where
   few-starts : (each : (p : ℕ) → p < sim.lps → length (sim.start p).sends ≤ MAX_SENDS) → w < sim.workers → length (start_sends sim w) ≤ MAX_SENDS * (sim.lps + sim.workers)
   few-starts each some =
       let pos : 0 < sim.workers = omega arith in
-      let known : (place : ℕ) → place < process_count sim w → process_at sim w place < sim.lps = λ place less.
-      let enough = (le-div_iff_mul-le {k = sim.workers} {x = suc place} {y = sim.lps + (sim.workers - 1) - w} pos).0 less in
-      let more = suc-mul place sim.workers in
+      let known : (index : ℕ) → index < process_count sim w → process_at sim w index < sim.lps = λ index less.
+      let enough = (le-div_iff_mul-le {k = sim.workers} {x = suc index} {y = sim.lps + (sim.workers - 1) - w} pos).0 less in
+      let more = suc-mul index sim.workers in
       omega (arith, enough, more, some) in
       let all = few-started each (process_count sim w) known in
       let less = div-le_self (sim.lps + (sim.workers - 1) - w) sim.workers in
       omega (arith, all, less)
 
--- ---- how many places there are
+-- ---- how many indices there are
 
 module _ (lps workers w n p : ℕ) (some : w < workers) (at : p ≡ n * workers + w) where
-  pub place-left : p < lps → suc n ≤ (lps + (workers - 1) - w) / workers
-  place-left less =
+  pub index-left : p < lps → suc n ≤ (lps + (workers - 1) - w) / workers
+  index-left less =
       let pos : 0 < workers = omega arith in
       let more : suc n * workers ≡ n * workers + workers = suc-mul n workers in
       let fits : suc n * workers ≤ lps + (workers - 1) - w = omega (arith, more, less, at, some) in
       (le-div_iff_mul-le {k = workers} {x = suc n} {y = lps + (workers - 1) - w} pos).1 fits
 
-  pub places-done : lps ≤ p → p < lps + workers → n ≡ (lps + (workers - 1) - w) / workers
-  places-done past less =
+  pub indices-done : lps ≤ p → p < lps + workers → n ≡ (lps + (workers - 1) - w) / workers
+  indices-done past less =
       let pos : 0 < workers = omega arith in
       let more : suc n * workers ≡ n * workers + workers = suc-mul n workers in
       let fits : n * workers ≤ lps + (workers - 1) - w = omega (arith, at, less, some) in
@@ -102,8 +102,8 @@ module _ (lps workers w n p : ℕ) (some : w < workers) (at : p ≡ n * workers 
       let high : (lps + (workers - 1) - w) / workers < suc n = (div-lt_iff_lt-mul {k = workers} {x = lps + (workers - 1) - w} {y = suc n} pos).1 over in
       omega (arith, low, high)
 
-pub place-own : (workers w n p : ℕ) → w < workers → p ≡ n * workers + w → p % workers ≡ w
-place-own workers w n p some at =
+pub index-own : (workers w n p : ℕ) → w < workers → p ≡ n * workers + w → p % workers ≡ w
+index-own workers w n p some at =
     let pos : 0 < workers = omega arith in
     let whole : p / workers * workers + p % workers ≡ p = div-add-mod' p workers in
     let part : p / workers ≡ n = ap (λ k. k / workers) at ∙ div-mul-add n workers w some in

@@ -15,7 +15,7 @@ use Rattle.vt_steps.specs.promise.PartSteps.{with_effect, at_process, execute}
 use Rattle.vt_steps.specs.declared.step.Step.TheVariants.{Execute}
 use Rattle.vt_steps.specs.inside.StandsFor.{StandsForProcess}
 use Rattle.vt_steps.specs.inside.Cells.{if_own, local_step}
-use Rattle.vt_steps.proofs.lists.Places.{get-put_same}
+use Rattle.vt_steps.proofs.lists.Indices.{get-put_same}
 use Rattle.vt_steps.proofs.steps.MemoryLemmas.{is_where}
 use Rattle.vt_lp.specs.inside.Held.{HeldProcess, process_memory, StandsFor as ProcessStandsFor}
 use Rattle.vt_lp.specs.promise.Guards.{number_of}
@@ -60,7 +60,7 @@ module _ {S P : Type 0} (sim : Simulation S P) (w : ℕ) where
       own p (at_process step (p / sim.workers) part) is ∙ ap (λ q. option_map (with_effect part (p / sim.workers)) (option_and_then step q)) there
 
 module _ {S P K : Type 0} (handlers : Handlers S P K) where
-  -- the process at the place of p, in memory and in the part
+  -- the process at the index of p, in memory and in the part
   pub record IsFound (held : HeldWorker S P K) (part : Part P) (p : ℕ) (q : HeldProcess S P K) : Type 0 where
     pub process : LogicalProcess P
     pub there : slice_get part.processes (p / held.config.workers) ≡ Some process
@@ -72,12 +72,12 @@ module _ {S P K : Type 0} (handlers : Handlers S P K) where
       → StandsFor handlers held part → AreProcesses held.config held.worker 0 held.processes → p % held.config.workers ≡ held.worker
       → slice_get held.processes (p / held.config.workers) ≡ Some q → IsFound held part p q
   found held part p q h are own at =
-      let place = p / held.config.workers in
+      let index = p / held.config.workers in
       let sim = simulation_of handlers held.config in
-      let here = stands-at sim held.worker 0 place (map (process_memory handlers) held.processes) part.processes (process_memory handlers q) h.processes (get-map_of (process_memory handlers) held.processes place q at) in
-      let who = process-at held.config held.worker 0 place held.processes q are at in
-      let plain : 0 + place ≡ place = omega arith in
-      let number : process_at sim held.worker (0 + place) ≡ p = ap (λ k. k * held.config.workers + held.worker) plain ∙ ap (λ r. place * held.config.workers + r) (sym own) ∙ div-add-mod' p held.config.workers in
+      let here = stands-at sim held.worker 0 index (map (process_memory handlers) held.processes) part.processes (process_memory handlers q) h.processes (get-map_of (process_memory handlers) held.processes index q at) in
+      let who = process-at held.config held.worker 0 index held.processes q are at in
+      let plain : 0 + index ≡ index = omega arith in
+      let number : process_at sim held.worker (0 + index) ≡ p = ap (λ k. k * held.config.workers + held.worker) plain ∙ ap (λ r. index * held.config.workers + r) (sym own) ∙ div-add-mod' p held.config.workers in
       let lp : q.lp ≡ p = who.0 ∙ number in
       let stands : StandsForProcess sim q.lp (process_memory handlers q) here.0 = subst (λ k. StandsForProcess sim k (process_memory handlers q) here.0) (sym who.0) here.2 in
       record {
@@ -114,12 +114,12 @@ module _ {S P K : Type 0} (handlers : Handlers S P K) where
       → IsDone handlers (with_process held p new outbox serial) (at_own (simulation_of handlers held.config) held.worker p (at_process step (p / held.config.workers) part))
   done-at held part p q new outbox serial step h own at same_lp same_config done =
       let sim = simulation_of handlers held.config in
-      let place = p / held.config.workers in
-      let number : p ≡ process_at sim held.worker place = sym (div-add-mod' p held.config.workers) ∙ ap (λ r. place * held.config.workers + r) own in
+      let index = p / held.config.workers in
+      let number : p ≡ process_at sim held.worker index = sym (div-add-mod' p held.config.workers) ∙ ap (λ r. index * held.config.workers + r) own in
       record {
-        part = with_effect part place done.effect;
-        lawful = own-step sim held.worker p step part at.process own at.there ∙ ap (option_map (with_effect part place)) done.lawful;
-        stands = stands-after handlers held part place new done.effect outbox serial h (same_lp ∙ at.lp ∙ number) (same_config ∙ at.config) done.stands done.letters done.serials;
+        part = with_effect part index done.effect;
+        lawful = own-step sim held.worker p step part at.process own at.there ∙ ap (option_map (with_effect part index)) done.lawful;
+        stands = stands-after handlers held part index new done.effect outbox serial h (same_lp ∙ at.lp ∙ number) (same_config ∙ at.config) done.stands done.letters done.serials;
       }
 
   -- a step that is not lawful at the process is not at the worker
@@ -150,8 +150,8 @@ module _ {S P K : Type 0} (handlers : Handlers S P K) where
   refusal-at held part p None process fault h there why = why
   refusal-at held part p (Some effect) process fault h there why =
       let sim = simulation_of handlers held.config in
-      let place = p / held.config.workers in
-      let is : slice_get (with_effect part place effect).processes place ≡ Some effect.process = get-put_same part.processes place process effect.process there in
+      let index = p / held.config.workers in
+      let is : slice_get (with_effect part index effect).processes index ≡ Some effect.process = get-put_same part.processes index process effect.process there in
       let serial : part.serial + effect.serials ≡ held.serial + effect.serials = ap (λ k. k + effect.serials) h.serial in
       elim why [
         | inl e ↦ inl (

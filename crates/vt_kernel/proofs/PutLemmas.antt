@@ -27,10 +27,10 @@ module _ {P : Type 0} (outbox : HeldOutbox P) {put : HeldOutbox P} (sent : List 
   put-kept same = behind ∙ ap (λ (ls : List (Letter P)). outbox.letters ++ ls) (same ∙ none) ∙ append-nil outbox.letters
 
   -- where the process was written as it was too, the worker is seen as before
-  pub put-seen : {S K : Type 0} (held : HeldWorker S P K) (place : ℕ) {old new : HeldProcess S P K} {serial : ℕ} → slice_get held.processes place ≡ Some old → held.outbox ≡ outbox.letters
-      → new ≡ old → sent ≡ empty → serial ≡ held.serial → record held { processes = slice_set held.processes place new; outbox = put.letters; serial = serial } ≡ held
-  put-seen held place {old} {new} at same_outbox same kept still =
-      λ j. record held { processes = written-same held.processes place old new at same j; outbox = (put-kept kept ∙ sym same_outbox) j; serial = still j }
+  pub put-seen : {S K : Type 0} (held : HeldWorker S P K) (index : ℕ) {old new : HeldProcess S P K} {serial : ℕ} → slice_get held.processes index ≡ Some old → held.outbox ≡ outbox.letters
+      → new ≡ old → sent ≡ empty → serial ≡ held.serial → record held { processes = slice_set held.processes index new; outbox = put.letters; serial = serial } ≡ held
+  put-seen held index {old} {new} at same_outbox same kept still =
+      λ j. record held { processes = written-same held.processes index old new at same j; outbox = (put-kept kept ∙ sym same_outbox) j; serial = still j }
 
   put-letters : (letters : List (Letter P)) → sent ≡ empty ++ letters → put.letters ≡ outbox.letters ++ letters
   put-letters letters made = behind ∙ ap (λ (ls : List (Letter P)). outbox.letters ++ ls) (made ∙ ap (λ (ls : List (Letter P)). ls ++ letters) none)
@@ -65,12 +65,12 @@ module _ {P : Type 0} (outbox : HeldOutbox P) {put : HeldOutbox P} (sent : List 
   -- how a worker's fields go together once one of its processes has changed
   module _ {S K : Type 0} {config : Config} {w : ℕ} {processes : List (HeldProcess S P K)} {arrived : List (Mail P)} {out got : Counts} {serial : ℕ}
       (h : IsWorkerInside config w processes outbox arrived out got serial) where
-    pub inside-put : (place : ℕ) {old : HeldProcess S P K} (new : HeldProcess S P K) {next : ℕ}
-        → slice_get processes place ≡ Some old → (new.lp ≡ old.lp) × (new.config ≡ old.config)
-        → (AllWithinRun old.config empty → AllWithinRun old.config sent) → next ≤ MAX_COUNT → IsWorkerInside config w (slice_set processes place new) put arrived out got next
-    inside-put place {old} new at same more few =
+    pub inside-put : (index : ℕ) {old : HeldProcess S P K} (new : HeldProcess S P K) {next : ℕ}
+        → slice_get processes index ≡ Some old → (new.lp ≡ old.lp) × (new.config ≡ old.config)
+        → (AllWithinRun old.config empty → AllWithinRun old.config sent) → next ≤ MAX_COUNT → IsWorkerInside config w (slice_set processes index new) put arrived out got next
+    inside-put index {old} new at same more few =
         let each = IsWithinRun {P = P} config.lps (end_of config) in
-        let within = subst (λ (k : Config). AllWithinRun k empty → AllWithinRun k sent) (process-at config w 0 place processes old h.own_processes at).1 more in
-        inside-changed h place new at same
+        let within = subst (λ (k : Config). AllWithinRun k empty → AllWithinRun k sent) (process-at config w 0 index processes old h.own_processes at).1 more in
+        inside-changed h index new at same
         (subst (AllWithinRun config) (sym behind) (All-append each outbox.letters sent h.sendable (within (subst (AllWithinRun config) (sym none) (All-nil each)))))
         (ap (λ (o : HeldOutbox P). o.config) is ∙ h.by_worker) few

@@ -31,7 +31,7 @@ if-false : {A : Type 0} (b : Bool) (x : A) → (if b then Some x else None) ≡ 
 if-false true x e = absurd (let h : Some x ≡ None = e in cc)
 if-false false x e = refl
 
--- what is mapped at a place is what is there
+-- what is mapped at an index is what is there
 get-mapped : {X Y : Type 0} (f : X → Y) (xs : List X) (i : ℕ) (y : Y) → slice_get (map f xs) i ≡ Some y → (x : X) × (slice_get xs i ≡ Some x) × (f x ≡ y)
 get-mapped f [] i y at = absurd (let h : None ≡ Some y = at in cc)
 get-mapped f (x ∷ xs) zero y at = (x, refl, (let h : Some (f x) ≡ Some y = at in cc))
@@ -83,29 +83,29 @@ module _ {S P K : Type 0} (handlers : Handlers S P K) where
         → (after : Part P) × (local_step (simulation_of handlers held.config) held.worker (Execute p) part ≡ Some after)
     lawful-at p rank own at =
         let sim = simulation_of handlers held.config in
-        let place = p / held.config.workers in
-        let there = get-mapped ready_of held.processes place (Some rank) at in
+        let index = p / held.config.workers in
+        let there = get-mapped ready_of held.processes index (Some rank) at in
         let f = found handlers held part p there.0 h are own there.1 in
         let step = execute-step handlers held part p in
-        let done = ready-lawful sim (place * held.config.workers + held.worker) held.worker part.serial there.0 f.process rank f.stands there.2 in
-        (with_effect part place done.0, own-execute sim held.worker p part ∙ own-step sim held.worker p step part f.process own f.there ∙ ap (option_map (with_effect part place)) done.1)
+        let done = ready-lawful sim (index * held.config.workers + held.worker) held.worker part.serial there.0 f.process rank f.stands there.2 in
+        (with_effect part index done.0, own-execute sim held.worker p part ∙ own-step sim held.worker p step part f.process own f.there ∙ ap (option_map (with_effect part index)) done.1)
 
-    pub unlawful-at : ((place : ℕ) (rank : Rank) → slice_get (map ready_of held.processes) place ≡ Some (Some rank) → ⊥)
+    pub unlawful-at : ((index : ℕ) (rank : Rank) → slice_get (map ready_of held.processes) index ≡ Some (Some rank) → ⊥)
         → (p : ℕ) → local_step (simulation_of handlers held.config) held.worker (Execute p) part ≡ None
     unlawful-at nobody p =
         let sim = simulation_of handlers held.config in
-        let place = p / held.config.workers in
+        let index = p / held.config.workers in
         let step = execute-step handlers held part p in
         own-execute sim held.worker p part
         ∙ elim (eqb_tells (p % held.config.workers) held.worker) [
           | inr e ↦ not-own sim held.worker p _ e.1
           | inl e ↦
-              one-of (slice_get held.processes place)
-              (λ gone. past-refused handlers held are part h p step (past-get held.processes place gone))
+              one-of (slice_get held.processes index)
+              (λ gone. past-refused handlers held are part h p step (past-get held.processes index gone))
               (λ q at.
               (let f = found handlers held part p q h are e.1 at in
               refused-at handlers held part p q step e.1 f
               (one-of (ready_of q)
-              (λ none. none-ready sim (place * held.config.workers + held.worker) held.worker part.serial q f.process f.stands none)
-              (λ rank some. absurd (nobody place rank (get-map_of ready_of held.processes place q at ∙ ap Some some))))))
+              (λ none. none-ready sim (index * held.config.workers + held.worker) held.worker part.serial q f.process f.stands none)
+              (λ rank some. absurd (nobody index rank (get-map_of ready_of held.processes index q at ∙ ap Some some))))))
         ]

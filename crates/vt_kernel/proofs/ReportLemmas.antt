@@ -22,13 +22,13 @@ kept_letters held = held.pending ++ held.waiting
 
 module _ {S P K : Type 0} (handlers : Handlers S P K) where
   -- what the processes of a part have is what is kept of them
-  pub same-kept : (sim : Simulation S P) (w place : ℕ) (held : List (HeldProcess S P K)) (processes : List (LogicalProcess P)) →
-      StandForProcesses sim w place (map (process_memory handlers) held) processes →
+  pub same-kept : (sim : Simulation S P) (w index : ℕ) (held : List (HeldProcess S P K)) (processes : List (LogicalProcess P)) →
+      StandForProcesses sim w index (map (process_memory handlers) held) processes →
       flat_map (λ (q : LogicalProcess P). q.pending ++ q.waiting) processes ≡ flat_map kept_letters held
-  same-kept sim w place [] [] h = refl
-  same-kept sim w place [] (q ∷ qs) h = absurd h
-  same-kept sim w place (x ∷ xs) [] h = absurd h
-  same-kept sim w place (x ∷ xs) (q ∷ qs) h = (λ j. (h.0.pending j ++ h.0.waiting j) ++ same-kept sim w (place + 1) xs qs h.1 j)
+  same-kept sim w index [] [] h = refl
+  same-kept sim w index [] (q ∷ qs) h = absurd h
+  same-kept sim w index (x ∷ xs) [] h = absurd h
+  same-kept sim w index (x ∷ xs) (q ∷ qs) h = (λ j. (h.0.pending j ++ h.0.waiting j) ++ same-kept sim w (index + 1) xs qs h.1 j)
 
   pub same-letters : (held : HeldWorker S P K) (part : Part P) → StandsFor handlers held part → letters_in part ≡ held_letters held
   same-letters held part s =

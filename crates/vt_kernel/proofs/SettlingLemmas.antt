@@ -16,7 +16,7 @@ use Rattle.vt_steps.specs.promise.World.{LogicalProcess, Part}
 use Rattle.vt_steps.specs.promise.ProcessSteps.{ProcessEffect, undo_process, cancel_process, can_annihilate}
 use Rattle.vt_steps.specs.promise.PartSteps.{with_effect}
 use Rattle.vt_steps.specs.inside.Cells.{local_step, local_steps}
-use Rattle.vt_steps.proofs.lists.Places.{get-put_same}
+use Rattle.vt_steps.proofs.lists.Indices.{get-put_same}
 use Rattle.vt_kernel.proofs.Written.{put-there}
 use Rattle.vt_kernel.specs.inside.Local.{AreSettling, IsSettled, is_undo, count_undos}
 use Rattle.vt_lp.specs.inside.Held.{HeldProcess, StandsFor as ProcessStandsFor}
@@ -44,11 +44,11 @@ counted-as-before steps p stamp count is =
     is ∙ ap (λ n. n % 2 ^ 64) ((let h = undos-both steps (Cancel p stamp ∷ []) in let none : count_undos (Cancel p stamp ∷ []) ≡ 0 = refl in omega (arith, h, none)))
 
 module _ {P : Type 0} where
-  -- the part after two effects at a place
-  pub with-both : (part : Part P) (place : ℕ) (first second : ProcessEffect P)
-      → with_effect (with_effect part place first) place second ≡ with_effect part place (and_then first second)
-  with-both part place first second = λ j. record part {
-    processes = set-set part.processes place first.process second.process j;
+  -- the part after two effects at an index
+  pub with-both : (part : Part P) (index : ℕ) (first second : ProcessEffect P)
+      → with_effect (with_effect part index first) index second ≡ with_effect part index (and_then first second)
+  with-both part index first second = λ j. record part {
+    processes = set-set part.processes index first.process second.process j;
     outbox = append_assoc part.outbox first.letters second.letters j;
     serial = (let same : (part.serial + first.serials) + second.serials ≡ part.serial + (first.serials + second.serials) = omega arith in same) j;
   }
@@ -72,10 +72,10 @@ module _ {S P : Type 0} (sim : Simulation S P) (w : ℕ) where
       go more (Some x) h = more x h
 
   -- nothing done at a process leaves its part
-  pub not-moved : (part : Part P) (place : ℕ) (process : LogicalProcess P) → slice_get part.processes place ≡ Some process
-      → part ≡ with_effect part place (nothing_done process)
-  not-moved part place process there = λ j. record part {
-    processes = sym (put-there part.processes place process there) j;
+  pub not-moved : (part : Part P) (index : ℕ) (process : LogicalProcess P) → slice_get part.processes index ≡ Some process
+      → part ≡ with_effect part index (nothing_done process)
+  not-moved part index process there = λ j. record part {
+    processes = sym (put-there part.processes index process there) j;
     outbox = sym (append-nil part.outbox) j;
     serial = (let same : part.serial ≡ part.serial + 0 = omega arith in same) j;
   }
@@ -86,23 +86,23 @@ module _ {S P : Type 0} (sim : Simulation S P) (w : ℕ) where
       → local_steps sim w steps part ≡ Some (with_effect part (p / sim.workers) effect)
   led-at p process _ _ part not_moved own there = ap Some (not-moved part (p / sim.workers) process there)
   led-at p process _ _ part (undone steps so_far effect led lawful) own there =
-      let place = p / sim.workers in
-      let mid = with_effect part place so_far in
+      let index = p / sim.workers in
+      let mid = with_effect part index so_far in
       let before = led-at p process steps so_far part led own there in
-      let here : slice_get mid.processes place ≡ Some so_far.process = get-put_same part.processes place process so_far.process there in
+      let here : slice_get mid.processes index ≡ Some so_far.process = get-put_same part.processes index process so_far.process there in
       steps-more steps (Undo p) part mid before
       ∙ own-step sim w p undo_process mid so_far.process own here
-      ∙ ap (option_map (with_effect mid place)) lawful
-      ∙ ap Some (with-both part place so_far effect)
+      ∙ ap (option_map (with_effect mid index)) lawful
+      ∙ ap Some (with-both part index so_far effect)
   led-at p process _ _ part (cancelled stamp steps so_far effect led lawful) own there =
-      let place = p / sim.workers in
-      let mid = with_effect part place so_far in
+      let index = p / sim.workers in
+      let mid = with_effect part index so_far in
       let before = led-at p process steps so_far part led own there in
-      let here : slice_get mid.processes place ≡ Some so_far.process = get-put_same part.processes place process so_far.process there in
+      let here : slice_get mid.processes index ≡ Some so_far.process = get-put_same part.processes index process so_far.process there in
       steps-more steps (Cancel p stamp) part mid before
       ∙ own-step sim w p (cancel_process stamp) mid so_far.process own here
-      ∙ ap (option_map (with_effect mid place)) lawful
-      ∙ ap Some (with-both part place so_far effect)
+      ∙ ap (option_map (with_effect mid index)) lawful
+      ∙ ap Some (with-both part index so_far effect)
 
   -- they are steps Undo and Cancel
   pub are-settling : (p : ℕ) (process : LogicalProcess P) (steps : List Step) (effect : ProcessEffect P) → LedTo p process steps effect → AreSettling p steps

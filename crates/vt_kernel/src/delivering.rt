@@ -29,8 +29,8 @@ impl<M: EventModel> Kernel<M> {
         let Some(letter) = self.outbox.pop_for(self.worker) else {
             return Err(Fault::NotLawful);
         };
-        let place = self.config.index(letter.get().event.dest) as usize;
-        if let Err((fault, letter)) = self.processes[place].accept(letter) {
+        let index = self.config.index(letter.get().event.dest) as usize;
+        if let Err((fault, letter)) = self.processes[index].accept(letter) {
             self.outbox.put_back(self.worker, letter, &before);
             return Err(fault);
         }
@@ -54,11 +54,11 @@ impl<M: EventModel> Kernel<M> {
             return Err(Fault::NotLawful);
         };
         let letter = mail.letter;
-        let place = self.config.index(letter.event.dest) as usize;
+        let index = self.config.index(letter.event.dest) as usize;
         let Ok(parcel) = Parcel::new(alloc, letter) else {
-            return Err(unmade(&self.processes[place], letter));
+            return Err(unmade(&self.processes[index], letter));
         };
-        if let Err((fault, _)) = self.processes[place].accept(parcel) {
+        if let Err((fault, _)) = self.processes[index].accept(parcel) {
             return Err(fault);
         }
         self.arrived.remove(i);

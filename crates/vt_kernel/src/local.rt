@@ -39,11 +39,11 @@ impl<M: EventModel> Kernel<M> {
         ensures others { (p : ℕ) → (p ≡ lp → ⊥) → process_of self.new p ≡ process_of self.old p }
         ensures same { (self.new.worker ≡ self.old.worker) × (self.new.config ≡ self.old.config) }
     {
-        let Some(place) = place_of(self.config, self.worker, lp) else {
+        let Some(index) = index_of(self.config, self.worker, lp) else {
             return Err(Fault::NotLawful);
         };
         let mut sent = List::new(alloc);
-        let result = self.processes[place].execute(alloc, model, &mut self.serial, &mut sent);
+        let result = self.processes[index].execute(alloc, model, &mut self.serial, &mut sent);
         self.outbox.put(sent);
         result
     }
@@ -62,11 +62,11 @@ impl<M: EventModel> Kernel<M> {
         ensures others { (p : ℕ) → (p ≡ lp → ⊥) → process_of self.new p ≡ process_of self.old p }
         ensures same { (self.new.worker ≡ self.old.worker) × (self.new.config ≡ self.old.config) }
     {
-        let Some(place) = place_of(self.config, self.worker, lp) else {
+        let Some(index) = index_of(self.config, self.worker, lp) else {
             return Err(Fault::NotLawful);
         };
         let mut sent = List::new(*self.arrived.allocator());
-        let result = self.processes[place].undo(model, &mut sent);
+        let result = self.processes[index].undo(model, &mut sent);
         self.outbox.put(sent);
         result
     }
@@ -85,16 +85,16 @@ impl<M: EventModel> Kernel<M> {
         ensures others { (p : ℕ) → (p ≡ lp → ⊥) → process_of self.new p ≡ process_of self.old p }
         ensures same { (self.new.worker ≡ self.old.worker) × (self.new.config ≡ self.old.config) }
     {
-        let Some(place) = place_of(self.config, self.worker, lp) else {
+        let Some(index) = index_of(self.config, self.worker, lp) else {
             return Err(Fault::NotLawful);
         };
-        self.processes[place].cancel(stamp)
+        self.processes[index].cancel(stamp)
     }
 }
 
 /// The index of process `lp` among the worker's processes; None if it isn't one of them.
-pub(crate) fn place_of(config: Config, worker: u32, lp: u32) -> Option<usize>
-    ensures own { IfSome result (λ place. (place ≡ lp / config.workers) × (lp % config.workers ≡ worker) × (lp < config.lps)) }
+pub(crate) fn index_of(config: Config, worker: u32, lp: u32) -> Option<usize>
+    ensures own { IfSome result (λ index. (index ≡ lp / config.workers) × (lp % config.workers ≡ worker) × (lp < config.lps)) }
     ensures other { IfNone result (lp % config.workers ≡ worker → config.lps ≤ lp) }
 {
     if lp >= config.lps || config.owner(lp) != worker {

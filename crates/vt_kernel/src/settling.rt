@@ -9,7 +9,7 @@ ghost use Rattle.vt_kernel.specs.inside.Guards.{SettlesTo};
 ghost use Rattle.vt_kernel.specs.inside.Settled.{IsSettledTo};
 
 use crate::kernel::Kernel;
-use crate::local::place_of;
+use crate::local::index_of;
 use vt_key::Letter;
 use vt_list::List;
 use vt_lp::Lp;
@@ -23,11 +23,11 @@ impl<M: EventModel> Kernel<M> {
         ensures other { (IsProcessOf self.old.config self.old.worker lp → ⊥) → (result ≡ 0) × (self.new ≡ self.old) }
         ensures same { (self.new.worker ≡ self.old.worker) × (self.new.config ≡ self.old.config) }
     {
-        let Some(place) = place_of(self.config, self.worker, lp) else {
+        let Some(index) = index_of(self.config, self.worker, lp) else {
             return 0;
         };
         let mut sent = List::new(*self.arrived.allocator());
-        let undone = settle_process(&mut self.processes[place], model, &mut sent);
+        let undone = settle_process(&mut self.processes[index], model, &mut sent);
         self.outbox.put(sent);
         undone
     }

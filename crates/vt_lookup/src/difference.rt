@@ -6,7 +6,7 @@ use vt_key::{Fault, When};
 
 /// Where in a run: the process, and the time of the event that it executes. A start is at tick 0 with priority 0.
 #[derive(Debug, Clone, Copy, PartialEq, Eq)]
-pub struct Place {
+pub struct Moment {
     /// The logical process.
     pub lp: u32,
     /// The tick.
@@ -15,10 +15,10 @@ pub struct Place {
     pub priority: u8,
 }
 
-impl Place {
-    /// The place of a process at a time.
-    pub(crate) fn new(lp: u32, now: When) -> Place {
-        Place {
+impl Moment {
+    /// Process `lp` at a time.
+    pub(crate) fn new(lp: u32, now: When) -> Moment {
+        Moment {
             lp,
             tick: now.ticks(),
             priority: now.priority(),
@@ -26,7 +26,7 @@ impl Place {
     }
 }
 
-impl fmt::Display for Place {
+impl fmt::Display for Moment {
     fn fmt<W: fmt::Write>(&self, f: &mut fmt::Formatter<W>) -> fmt::Result {
         let lp = self.lp;
         let tick = self.tick;
@@ -65,16 +65,16 @@ impl fmt::Display for Part {
 pub enum Difference {
     /// `reverse` hasn't given back the state from before the event.
     #[error("{0}: reverse gives another state than the one before the event")]
-    Undone(Place),
+    Undone(Moment),
     /// The event was undone and executed again, and gave something else than in the same state before.
     #[error("{0}: executed again after an undo, the event gives {1}")]
-    Again(Place, Part),
+    Again(Moment, Part),
     /// It sends an event to a process that there isn't, of so many.
     #[error("{0}: it sends to process {1}, and the last process is {2}")]
-    Receiver(Place, u32, u32),
+    Receiver(Moment, u32, u32),
     /// It sends an event that isn't received later than now.
     #[error("{0}: it sends to process {1} for tick {2}, priority {3}, which isn't later")]
-    Early(Place, u32, u64, u8),
+    Early(Moment, u32, u64, u8),
     /// The look itself was refused something: memory, or a send number above 2^63.
     #[error("{0}")]
     Refused(Fault),

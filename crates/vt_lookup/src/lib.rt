@@ -9,5 +9,5 @@ mod looking;
 mod pair;
 mod pending;
 
-pub use difference::{Difference, Part, Place};
+pub use difference::{Difference, Moment, Part};
 pub use looking::look;

@@ -2,17 +2,17 @@
 
 ghost use Rattle.std.specs.Prelude.{◌≤◌, ◌<◌, IfOk};
 
-use crate::difference::{Difference, Place};
+use crate::difference::{Difference, Moment};
 use crate::pair::Pair;
 use crate::pending::Pending;
 use std::alloc::Global;
 use vt_key::{Fault, When};
 use vt_model::{Config, Model as EventModel, Out, Process, Sent};
 
-/// Adds what is sent at a place to the pending events. A send that isn't later, or that goes to no process, is answered.
+/// Adds what is sent at a moment to the pending events. A send that isn't later, or that goes to no process, is answered.
 fn add_sends<P: Copy>(
     config: Config,
-    place: Place,
+    moment: Moment,
     now: When,
     sends: &[Sent<P>],
     pending: &mut Pending<P>,
@@ -20,10 +20,10 @@ fn add_sends<P: Copy>(
     for sent in sends {
         let when = sent.key.when();
         if sent.dest >= config.lps {
-            return Err(Difference::Receiver(place, sent.dest, config.lps - 1));
+            return Err(Difference::Receiver(moment, sent.dest, config.lps - 1));
         }
         if when <= now {
-            return Err(Difference::Early(place, sent.dest, when.ticks(), when.priority()));
+            return Err(Difference::Early(moment, sent.dest, when.ticks(), when.priority()));
         }
         if pending.put(sent).is_err() {
             return Err(Difference::Refused(Fault::Memory));
@@ -46,7 +46,7 @@ fn started<M: EventModel>(
     let tried = Process::start(model, config, lp, &mut out);
     out.renew(config, lp, now, 0);
     let steady = Process::start(model, config, lp, &mut out);
-    add_sends(config, Place::new(lp, now), now, out.sends(), pending)?;
+    add_sends(config, Moment::new(lp, now), now, out.sends(), pending)?;
     Ok(Pair { steady, tried })
 }
 
@@ -81,7 +81,7 @@ where
         pair.look_at(self.model, self.config, &event, &mut out)?;
         add_sends(
             self.config,
-            Place::new(event.dest, now),
+            Moment::new(event.dest, now),
             now,
             out.sends(),
             &mut self.pending,

@@ -5,7 +5,7 @@ ghost use Rattle.vt_lookup.specs.inside.Undoing.{event_gives, state_undone};
 ghost use Rattle.vt_model.specs.inside.Handler.{IsFresh};
 ghost use Rattle.vt_model.specs.promise.Settings.{end_of};
 
-use crate::difference::{Difference, Part, Place};
+use crate::difference::{Difference, Moment, Part};
 use vt_key::{Fault, MAX_COUNT};
 use vt_model::{Bits, Config, Draws, Model as EventModel, Out, Process, Sent, Undo};
 
@@ -108,19 +108,19 @@ where
             return Err(Difference::Refused(Fault::Exhausted));
         }
         let now = event.key.when();
-        let place = Place::new(event.dest, now);
+        let moment = Moment::new(event.dest, now);
         let mut again = Out::new(config, event.dest, now, number);
         let left = execute(model, &mut self.tried, event, &mut again);
         undo(model, &mut self.tried, event, left, number);
         if self.tried.state != self.steady.state {
-            return Err(Difference::Undone(place));
+            return Err(Difference::Undone(moment));
         }
         again.renew(config, event.dest, now, number);
         execute(model, &mut self.tried, event, &mut again);
         once.renew(config, event.dest, now, self.steady.number);
         execute(model, &mut self.steady, event, once);
         match self.differing(once, &again) {
-            Some(part) => Err(Difference::Again(place, part)),
+            Some(part) => Err(Difference::Again(moment, part)),
             None => Ok(()),
         }
     }

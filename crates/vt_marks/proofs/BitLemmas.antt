@@ -67,9 +67,9 @@ module _ (word from : ℕ) (small : word < 2 ^ 64) (within : from < 64) where
 
 -- ---- words in a row
 
--- the bit of a place, by its word
-pub in-word : (words : List ℕ) (place at word : ℕ) (value : Bool) → place / 64 ≡ at → slice_index_or words at 0 ≡ word → is_one word (place % 64) ≡ value → is_set words place ≡ value
-in-word words place at word value here there is = ap (λ k. is_one (slice_index_or words k 0) (place % 64)) here ∙ ap (λ n. is_one n (place % 64)) there ∙ is
+-- the bit of an index, by its word
+pub in-word : (words : List ℕ) (index at word : ℕ) (value : Bool) → index / 64 ≡ at → slice_index_or words at 0 ≡ word → is_one word (index % 64) ≡ value → is_set words index ≡ value
+in-word words index at word value here there is = ap (λ k. is_one (slice_index_or words k 0) (index % 64)) here ∙ ap (λ n. is_one n (index % 64)) there ∙ is
 
 -- past the last word no bit is set
 get-past : (words : List ℕ) (k : ℕ) → length words ≤ k → slice_index_or words k 0 ≡ 0
@@ -77,8 +77,8 @@ get-past [] k past = refl
 get-past (w ∷ ws) zero past = absurd (omega arith)
 get-past (w ∷ ws) (suc k) past = get-past ws k (omega arith)
 
-pub past-words : (words : List ℕ) (place : ℕ) → length words ≤ place / 64 → is_set words place ≡ false
-past-words words place past = in-word words place (place / 64) 0 false refl (get-past words (place / 64) past) (cleared 0 (place % 64) (bit_at-zero (place % 64)))
+pub past-words : (words : List ℕ) (index : ℕ) → length words ≤ index / 64 → is_set words index ≡ false
+past-words words index past = in-word words index (index / 64) 0 false refl (get-past words (index / 64) past) (cleared 0 (index % 64) (bit_at-zero (index % 64)))
 
 -- ---- words, and sums that tell which of them have a bit that is set
 
@@ -90,7 +90,7 @@ none-there : (word : ℕ) → not (nat_eq word 0) ≡ false → word ≡ 0
 none-there word is = grind (arith, nat_tests)
 
 module _ (words sums : List ℕ) (from : ℕ) (told : AreSums words sums) (here : (bit : ℕ) → from % 64 ≤ bit → bit < 64 → is_one (slice_index_or words (from / 64) 0) bit ≡ false) where
-  -- a place of a word that is passed
+  -- an index of a word that is passed
   passed : (next other : ℕ) → ((word : ℕ) → from / 64 + 1 ≤ word → word < next → is_set sums word ≡ false) → from ≤ other → other / 64 < next → is_set words other ≡ false
   passed next other between later before = go (cases_lt (from / 64) (other / 64))
     where
@@ -102,7 +102,7 @@ module _ (words sums : List ℕ) (from : ℕ) (told : AreSums words sums) (here 
           let one : other / 64 ≡ from / 64 = omega (arith, same, later) in
           in-word words other (from / 64) _ false one refl (here (other % 64) (omega (arith, one, later)) (omega arith))
 
-  -- none of the sums after the word of a place is set: none of the places is
+  -- none of the sums after the word of an index is set: none of the indices is
   pub nothing-later : ((word : ℕ) → from / 64 + 1 ≤ word → is_set sums word ≡ false) → (other : ℕ) → from ≤ other → is_set words other ≡ false
   nothing-later nowhere other later = passed (other / 64 + 1) other (λ word more less. nowhere word more) later (omega arith)
 

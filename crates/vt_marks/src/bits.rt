@@ -27,23 +27,23 @@ pub(crate) fn first_one(word: u64, from: u32) -> Option<u32>
     Some(rest.trailing_zeros())
 }
 
-/// Sets or clears bit `place`, and returns the word that holds it afterwards.
-pub(crate) fn write(words: &mut [u64], place: usize, value: bool) -> u64
-    requires { place / 64 < length words.old }
-    ensures word { words.new ≡ slice_set words.old (place / 64) result }
-    ensures own { is_set words.new place ≡ value }
-    ensures others { (other : ℕ) → other ≢ place → is_set words.new other ≡ is_set words.old other }
+/// Sets or clears bit `index`, and returns the word that holds it afterwards.
+pub(crate) fn write(words: &mut [u64], index: usize, value: bool) -> u64
+    requires { index / 64 < length words.old }
+    ensures word { words.new ≡ slice_set words.old (index / 64) result }
+    ensures own { is_set words.new index ≡ value }
+    ensures others { (other : ℕ) → other ≢ index → is_set words.new other ≡ is_set words.old other }
 {
-    let word = with_bit(words[place / 64], (place % 64) as u32, value);
-    words[place / 64] = word;
+    let word = with_bit(words[index / 64], (index % 64) as u32, value);
+    words[index / 64] = word;
     word
 }
 
 /// The first set bit at or after `from`; None if there is none.
 pub(crate) fn first_set(words: &[u64], from: usize) -> Option<usize>
     requires { length words.now ≤ 2 ^ 58 }
-    ensures set { IfSome result (λ place. (from ≤ place) × (is_set words.now place ≡ true)) }
-    ensures first { IfSome result (λ place. (other : ℕ) → from ≤ other → other < place → is_set words.now other ≡ false) }
+    ensures set { IfSome result (λ index. (from ≤ index) × (is_set words.now index ≡ true)) }
+    ensures first { IfSome result (λ index. (other : ℕ) → from ≤ other → other < index → is_set words.now other ≡ false) }
     ensures nothing { IfNone result ((other : ℕ) → from ≤ other → is_set words.now other ≡ false) }
 {
     let mut bit = (from % 64) as u32;
@@ -61,8 +61,8 @@ pub(crate) fn first_of_sums(words: &[u64], sums: &[u64], from: usize) -> Option<
     requires few { length words.now ≤ 2 ^ 58 }
     requires few_sums { length sums.now ≤ 2 ^ 58 }
     requires sums { AreSums words.now sums.now }
-    ensures set { IfSome result (λ place. (from ≤ place) × (is_set words.now place ≡ true)) }
-    ensures first { IfSome result (λ place. (other : ℕ) → from ≤ other → other < place → is_set words.now other ≡ false) }
+    ensures set { IfSome result (λ index. (from ≤ index) × (is_set words.now index ≡ true)) }
+    ensures first { IfSome result (λ index. (other : ℕ) → from ≤ other → other < index → is_set words.now other ≡ false) }
     ensures nothing { IfNone result ((other : ℕ) → from ≤ other → is_set words.now other ≡ false) }
 {
     let at = from / 64;

@@ -39,23 +39,23 @@ impl Marks {
         Ok(Marks { count, words, sums })
     }
 
-    /// Marks index `place`, or takes its mark away. Does nothing if `place` is `count` or more.
-    pub fn set(&mut self, place: usize, value: bool)
-        ensures { self.new ≡ slice_set self.old place value }
+    /// Marks `index`, or takes its mark away. Does nothing if `index` is `count` or more.
+    pub fn set(&mut self, index: usize, value: bool)
+        ensures { self.new ≡ slice_set self.old index value }
     {
-        if place >= self.count {
+        if index >= self.count {
             return;
         }
-        let word = write(&mut self.words, place, value);
-        write(&mut self.sums, place / 64, word != 0);
+        let word = write(&mut self.words, index, value);
+        write(&mut self.sums, index / 64, word != 0);
     }
 
-    /// The first marked index at or after `place`; None if there is none.
-    pub fn first_from(&self, place: usize) -> Option<usize>
-        ensures marked { IfSome result (λ first. (place ≤ first) × (slice_get self.now first ≡ Some true)) }
-        ensures first { IfSome result (λ first. (other : ℕ) → place ≤ other → other < first → slice_get self.now other ≡ Some true → ⊥) }
-        ensures nowhere { IfNone result ((other : ℕ) → place ≤ other → slice_get self.now other ≡ Some true → ⊥) }
+    /// The first marked index at or after `index`; None if there is none.
+    pub fn first_from(&self, index: usize) -> Option<usize>
+        ensures marked { IfSome result (λ first. (index ≤ first) × (slice_get self.now first ≡ Some true)) }
+        ensures first { IfSome result (λ first. (other : ℕ) → index ≤ other → other < first → slice_get self.now other ≡ Some true → ⊥) }
+        ensures nowhere { IfNone result ((other : ℕ) → index ≤ other → slice_get self.now other ≡ Some true → ⊥) }
     {
-        first_of_sums(&self.words, &self.sums, place)
+        first_of_sums(&self.words, &self.sums, index)
     }
 }

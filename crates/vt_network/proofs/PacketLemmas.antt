@@ -10,7 +10,7 @@ use Rattle.vt_model.specs.promise.Sends.{SendRequest, RecordRequest, requested_r
 use Rattle.vt_model.specs.promise.Simulation.{rows_of}
 use Rattle.vt_model.specs.promise.Sequential.{records_of}
 use Rattle.vt_parts.specs.declared.ring.Ring.{Ring}
-use Rattle.vt_parts.specs.inside.Ring.{place, is_empty, is_full, item_count, popped}
+use Rattle.vt_parts.specs.inside.Ring.{index, is_empty, is_full, item_count, popped}
 use Rattle.vt_parts.specs.inside.RingLaws.{some_within}
 use Rattle.vt_network.specs.declared.packet.Packet.{Packet}
 use Rattle.vt_network.specs.declared.packet.TheConstants.{ROOM}
@@ -45,7 +45,7 @@ arrived-packets m lp now p s =
     ≡ item_count s.queue + 1) [
       | true ↦ omega arith
       | false ↦ elim (is_full s.queue) as (λ b.
-          item_count (if b then s.queue else record s.queue { items = slice_set s.queue.items (place s.queue s.queue.len) p; len = s.queue.len + 1 })
+          item_count (if b then s.queue else record s.queue { items = slice_set s.queue.items (index s.queue s.queue.len) p; len = s.queue.len + 1 })
           + packets_sent (if b then [] else (if is_empty s.queue then (served m lp ∷ []) else []))
           + packets_recorded (if b then (loss p ∷ []) else [])
           ≡ item_count s.queue + 1) [
@@ -63,12 +63,12 @@ gone-packets : (m : Network) (lps lp : ℕ) (s : Router) → IsRouter s
     → item_count (popped s.queue) + packets_sent (gone_sends m lps lp s) ≡ item_count s.queue
 gone-packets m lps lp s fits =
     let q = s.queue in
-    elim (is_empty q) as (λ b. is_empty q ≡ b → item_count (if b then q else record q { head = place q 1; len = q.len - 1 })
-    + packets_sent (sent_on m lps lp (if b then q else record q { head = place q 1; len = q.len - 1 }) (if b then None else slice_get q.items q.head)) ≡ item_count q) [
+    elim (is_empty q) as (λ b. is_empty q ≡ b → item_count (if b then q else record q { head = index q 1; len = q.len - 1 })
+    + packets_sent (sent_on m lps lp (if b then q else record q { head = index q 1; len = q.len - 1 }) (if b then None else slice_get q.items q.head)) ≡ item_count q) [
       | true ↦ λ e. omega arith
       | false ↦ λ e.
-          let after : Ring Packet ROOM = record q { head = place q 1; len = q.len - 1 } in
-          let some = some_within q.items q.head (omega (arith, fits.queue.head, fits.queue.places)) in
+          let after : Ring Packet ROOM = record q { head = index q 1; len = q.len - 1 } in
+          let some = some_within q.items q.head (omega (arith, fits.queue.head, fits.queue.slots)) in
           ap (λ (o : Option Packet). q.len - 1 + packets_sent (sent_on m lps lp after o)) some.1
           ∙ omega (arith, forwarded-packets m lps lp after some.0, eqb-false q.len 0 e)
     ]

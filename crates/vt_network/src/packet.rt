@@ -16,7 +16,7 @@ pub struct Packet {
     pub born: u64,
 }
 
-/// The value of a place that has held no packet.
+/// The value of a slot that has held no packet.
 pub const BLANK: Packet = Packet {
     source: 0,
     dest: 0,

@@ -13,7 +13,7 @@ use Rattle.vt_key.specs.declared.letter.Letter.{Letter}
 use Rattle.vt_model.specs.declared.settings.Config.{Config}
 use Rattle.vt_steps.specs.promise.Letters.{least_time}
 use Rattle.vt_steps.specs.promise.PartSteps.{is_for}
-use Rattle.vt_steps.proofs.lists.Places.{all-written, get-replicate}
+use Rattle.vt_steps.proofs.lists.Indices.{all-written, get-replicate}
 use Rattle.vt_outbox.specs.inside.Outbox.{HeldOutbox, IsSorted}
 use Rattle.vt_outbox.proofs.PartingLemmas.{passes, fails}
 

@@ -11,7 +11,7 @@ total_counted {N} h value is =
     let bin = bin_of h value in
     elim (nat_lt bin N) as (λ b. nat_lt bin N ≡ b → total (if b then with_bin h bin one_more else with_beyond h one_more) ≡ (total h + 1) % 2 ^ 64) [
       | true ↦ λ e.
-          let in_place : bin < length h.bins = omega (arith, is.places, ltb-true bin N e) in
-          omega (arith, sum_by-set (λ x. x) h.bins bin (one_more (slice_index h.bins bin)) 0 in_place)
+          let in_range : bin < length h.bins = omega (arith, is.long, ltb-true bin N e) in
+          omega (arith, sum_by-set (λ x. x) h.bins bin (one_more (slice_index h.bins bin)) 0 in_range)
       | false ↦ λ e. omega arith
     ] refl

@@ -8,7 +8,7 @@ use Rattle.vt_parts.specs.declared.ring.Ring.{Ring}
 use Rattle.vt_parts.specs.inside.Ring.{IsRing, round, held, is_empty, is_full, pushed, first, popped}
 use Rattle.vt_parts.specs.inside.RingLaws.{round_is, round_below, some_within}
 
--- the n items from place k on, round the end
+-- the n items from slot k on, round the end
 abbrev pub window : {T : Type 0} → ℕ → ℕ → List T → List T
 window k n xs = take n (drop k xs ++ take k xs)
 
@@ -17,7 +17,7 @@ module _ {T : Type 0} (N k n : ℕ) (xs : List T) (start_in_range : k < N) (len_
   pub length-window : length (window k n xs) ≡ n
   length-window = length-take-le n _ (simp (length-append, length-drop) (omega (arith, length-take-le k xs (omega arith))))
 
-  -- item i of the window stands i places on
+  -- item i of the window stands i slots on
   pub get_or-window : (i : ℕ) (d : T) → i < n → get_or (window k n xs) i d ≡ get_or xs (round N k i) d
   get_or-window i d in_range =
       let length_tail = length-drop k xs in
@@ -26,7 +26,7 @@ module _ {T : Type 0} (N k n : ℕ) (xs : List T) (start_in_range : k < N) (len_
         | inr past ↦ get_or-append_right _ _ (N - k) i d (omega arith) (omega arith) ∙ get_or-take k xs _ d (omega arith) ∙ ap (λ j. get_or xs j d) (omega arith)
       ]
 
--- one place on and then i more
+-- one slot on and then i more
 round_next : (n head i : ℕ) → head < n → 1 + i < n → round n (round n head 1) i ≡ round n head (1 + i)
 round_next n head i known few = elim (round_is n head 1) [
   | inl before ↦ elim (round_is n (round n head 1) i) [
@@ -56,7 +56,7 @@ module _ {T : Type 0} (N k n : ℕ) (xs : List T) (start_in_range : k < N) (len_
         get_or-window N k (n + 1) ys start_in_range (omega arith) length_ys i d,
       ))
 
-  -- without the first item the window begins a place later
+  -- without the first item the window begins a slot later
   pub window-popped : 0 < n → window (round N k 1) (n - 1) xs ≡ drop 1 (window k n xs)
   window-popped nonempty =
       let next_in_range = round_below N k 1 start_in_range (omega arith) in
@@ -68,14 +68,14 @@ module _ {T : Type 0} (N k n : ℕ) (xs : List T) (start_in_range : k < N) (len_
       ∙ sym (get_or-window N k n xs start_in_range len_fits length_xs (1 + i) d (omega arith))
       ∙ sym (get_or-drop 1 (window k n xs) i d))
 
--- no place on
+-- no slot on
 round_here : (n head : ℕ) → head < n → round n head 0 ≡ head
 round_here n head known = elim (round_is n head 0) [ inl before ↦ omega arith | inr past ↦ omega arith ]
 
 module _ {T : Type 0} {N : ℕ} (r : Ring T N) (is : IsRing r) where
   -- a ring holds as many items as it counts
   pub length_held : length (held r) ≡ r.len
-  length_held = length-window N r.head r.len r.items is.head is.len is.places
+  length_held = length-window N r.head r.len r.items is.head is.len is.slots
 
   -- a push adds its item at the end, if there is room
   pub held_pushed : (item : T) → held (pushed r item) ≡ held r ++ (if is_full r then [] else item ∷ [])
@@ -83,21 +83,21 @@ module _ {T : Type 0} {N : ℕ} (r : Ring T N) (is : IsRing r) where
       let with_item : Ring T N = record r { items = slice_set r.items (round N r.head r.len) item; len = r.len + 1 } in
       elim (is_full r) as (λ b. is_full r ≡ b → held (if b then r else with_item) ≡ held r ++ (if b then [] else item ∷ [])) [
         | true ↦ λ e. sym (append-nil (held r))
-        | false ↦ λ e. window-pushed N r.head r.len r.items is.head is.len is.places item (leb-false N r.len e)
+        | false ↦ λ e. window-pushed N r.head r.len r.items is.head is.len is.slots item (leb-false N r.len e)
       ] refl
 
   -- the first item is the first of the list
   pub first_held : first r ≡ slice_get (held r) 0
   first_held =
-      let in_place : r.head < length r.items = omega (arith, is.head, is.places) in
-      let d = (some_within r.items r.head in_place).0 in
+      let in_range : r.head < length r.items = omega (arith, is.head, is.slots) in
+      let d = (some_within r.items r.head in_range).0 in
       elim (is_empty r) as (λ b. is_empty r ≡ b → (if b then None else slice_get r.items r.head) ≡ slice_get (held r) 0) [
         | true ↦ λ e. ap (λ n. slice_get (window r.head n r.items) 0) (sym (eqb-true r.len 0 e))
         | false ↦ λ e.
             let some : 0 < r.len = omega (arith, eqb-false r.len 0 e) in
-            slice_get-get_or r.items r.head d in_place
+            slice_get-get_or r.items r.head d in_range
             ∙ ap (λ k. Some (get_or r.items k d)) (sym (round_here N r.head is.head))
-            ∙ ap Some (sym (get_or-window N r.head r.len r.items is.head is.len is.places 0 d some))
+            ∙ ap Some (sym (get_or-window N r.head r.len r.items is.head is.len is.slots 0 d some))
             ∙ sym (slice_get-get_or (held r) 0 d (omega (arith, length_held)))
       ] refl
 
@@ -107,5 +107,5 @@ module _ {T : Type 0} {N : ℕ} (r : Ring T N) (is : IsRing r) where
       let after : Ring T N = record r { head = round N r.head 1; len = r.len - 1 } in
       elim (is_empty r) as (λ b. is_empty r ≡ b → held (if b then r else after) ≡ drop 1 (held r)) [
         | true ↦ λ e. ap (λ n. window r.head n r.items) (eqb-true r.len 0 e) ∙ sym (ap (λ n. drop 1 (window r.head n r.items)) (eqb-true r.len 0 e))
-        | false ↦ λ e. window-popped N r.head r.len r.items is.head is.len is.places (omega (arith, eqb-false r.len 0 e))
+        | false ↦ λ e. window-popped N r.head r.len r.items is.head is.len is.slots (omega (arith, eqb-false r.len 0 e))
       ] refl

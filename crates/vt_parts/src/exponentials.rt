@@ -31,7 +31,7 @@ const KNOTS: [u32; 65] = [
 /// A number of ticks whose law is exponential with this mean, at most 2^30: minus the natural logarithm of the word's part of 2^32,
 /// times the mean, rounded to the nearest tick. It may be 0. It draws one word, for which there must be room ([`Draws::room`]).
 ///
-/// The logarithm goes in straight lines between 65 places of each halving, and differs from the true one by at most 0.00003. So the
+/// The logarithm goes in straight lines between 65 points of each halving, and differs from the true one by at most 0.00003. So the
 /// number, before it is rounded, is off by at most 0.00003 times the mean, and its own mean is 1.000015 times the one asked for. The
 /// word 0, whose logarithm is infinite, gives 22.87 times the mean, which is the most.
 pub fn exponential(draws: &mut Draws<'_>, mean: u32) -> u64

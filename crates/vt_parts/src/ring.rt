@@ -1,20 +1,20 @@
 //! A finite first-in-first-out queue that can go back.
 
 ghost use Rattle.std.specs.Prelude.{◌≡◌, ◌<◌, [], ◌∷◌, ◌++◌, length, drop, slice_get, is_none, if◌then◌else◌};
-ghost use Rattle.vt_parts.specs.inside.Ring.{IsRing, held, item_count, empty_ring, place, written, is_empty, is_full, pushed, push_answer, unpushed, first, popped, unpopped};
+ghost use Rattle.vt_parts.specs.inside.Ring.{IsRing, held, item_count, empty_ring, index, written, is_empty, is_full, pushed, push_answer, unpushed, first, popped, unpopped};
 
 /// A first-in-first-out queue of at most `N` items, of fixed size. Each call that changes it has an inverse, which takes what the
-/// call answered. Two rings are equal where their items stand in the same places and the other places hold the same values.
+/// call answered. Two rings are equal where their items stand in the same slots and the other slots hold the same values.
 #[derive(Debug, Clone, Copy, PartialEq, Eq)]
 pub struct Ring<T: Copy, const N: usize> {
-    // The items lie from `head` on, round the end. The other places have items that were here before.
+    // The items lie from `head` on, round the end. The other slots have items that were here before.
     items: [T; N],
     head: usize,
     len: usize,
 }
 
 impl<T: Copy, const N: usize> Ring<T, N> {
-    /// An empty ring, with `blank` in each place. No call answers it as an item.
+    /// An empty ring, with `blank` in each slot. No call answers it as an item.
     pub fn new(blank: T) -> Self
         ensures { result ≡ empty_ring blank }
     {
@@ -25,7 +25,7 @@ impl<T: Copy, const N: usize> Ring<T, N> {
         }
     }
 
-    /// Puts an item behind the others, and answers what stood in its place before. Where the ring is full, it stays as it is, and
+    /// Puts an item behind the others, and answers what stood in its slot before. Where the ring is full, it stays as it is, and
     /// the answer is `None`.
     pub fn push(&mut self, item: T) -> Option<T>
         ensures ring { self.new ≡ pushed self.old item }
@@ -34,33 +34,33 @@ impl<T: Copy, const N: usize> Ring<T, N> {
         if self.is_full() {
             return None;
         }
-        let place = self.place(self.len);
-        let before = self.items.get(place).copied();
-        self.write(place, item);
+        let index = self.index(self.len);
+        let before = self.items.get(index).copied();
+        self.write(index, item);
         self.len += 1;
         before
     }
 
-    /// Undoes [`Ring::push`], of which it takes the answer: the last item goes, and what stood in its place comes back. `None`
+    /// Undoes [`Ring::push`], of which it takes the answer: the last item goes, and what stood in its slot comes back. `None`
     /// changes nothing.
     pub fn unpush(&mut self, answer: Option<T>)
         ensures { self.new ≡ unpushed self.old answer }
     {
         if let Some(before) = answer {
             self.len = self.len.saturating_sub(1);
-            let place = self.place(self.len);
-            self.write(place, before);
+            let index = self.index(self.len);
+            self.write(index, before);
         }
     }
 
-    /// Takes the first item out, if there is one. Its place keeps the value.
+    /// Takes the first item out, if there is one. Its slot keeps the value.
     pub fn pop(&mut self) -> Option<T>
         ensures ring { self.new ≡ popped self.old }
         ensures answer { result ≡ first self.old }
     {
         let first = self.front();
         if !self.is_empty() {
-            self.head = self.place(1);
+            self.head = self.index(1);
             self.len -= 1;
         }
         first
@@ -71,7 +71,7 @@ impl<T: Copy, const N: usize> Ring<T, N> {
         ensures { self.new ≡ unpopped self.old answer }
     {
         if answer.is_some() && !self.is_full() {
-            self.head = self.place(N - 1);
+            self.head = self.index(N - 1);
             self.len += 1;
         }
     }
@@ -108,9 +108,9 @@ impl<T: Copy, const N: usize> Ring<T, N> {
         }
     }
 
-    // The place that is so many behind the first.
-    fn place(&self, behind: usize) -> usize
-        ensures { result ≡ place self.now behind }
+    // The index that is so many behind the first.
+    fn index(&self, behind: usize) -> usize
+        ensures { result ≡ index self.now behind }
     {
         let to_end = N.saturating_sub(self.head);
         if behind < to_end {
@@ -120,12 +120,12 @@ impl<T: Copy, const N: usize> Ring<T, N> {
         }
     }
 
-    // Puts an item into a place.
-    fn write(&mut self, place: usize, item: T)
-        ensures { self.new ≡ written self.old place item }
+    // Puts an item into a slot.
+    fn write(&mut self, index: usize, item: T)
+        ensures { self.new ≡ written self.old index item }
     {
-        if place < N {
-            self.items[place] = item;
+        if index < N {
+            self.items[index] = item;
         }
     }
 }

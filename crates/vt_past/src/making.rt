@@ -73,10 +73,10 @@ fn past_event<P: Copy, K: Copy>(
         number,
         anti_messages,
     } = undo_entry;
-    let mut places = Records::new();
-    places.set(records);
+    let mut items = Records::new();
+    items.set(records);
     PastEvent {
-        records: places,
+        records: items,
         key: letter.get().event.rank.key,
         letter,
         anti_messages,

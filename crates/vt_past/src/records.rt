@@ -8,11 +8,11 @@ use vt_model::{MAX_RECORDS, Record};
 
 /// The records that an event made. Contracts see the list of them.
 ///
-/// They take the first places of an array.
+/// They take the first items of an array.
 #[derive(Drop)]
 pub struct Records {
     count: usize,
-    places: [Record; MAX_RECORDS],
+    items: [Record; MAX_RECORDS],
 }
 
 impl Model for Records {
@@ -22,9 +22,9 @@ impl Model for Records {
 
     ghost Value = { List Record };
 
-    ghost view = { λ r. take r.count r.places };
+    ghost view = { λ r. take r.count r.items };
 
-    ghost invariant = { λ r. (r.count ≤ MAX_RECORDS) × (length r.places ≡ MAX_RECORDS) };
+    ghost invariant = { λ r. (r.count ≤ MAX_RECORDS) × (length r.items ≡ MAX_RECORDS) };
 }
 
 impl Records {
@@ -34,7 +34,7 @@ impl Records {
     {
         Records {
             count: 0,
-            places: Default::default(),
+            items: Default::default(),
         }
     }
 
@@ -45,7 +45,7 @@ impl Records {
     {
         let mut count = 0;
         for record in records {
-            self.places[count] = *record;
+            self.items[count] = *record;
             count += 1;
         }
         self.count = count;
@@ -56,6 +56,6 @@ impl Records {
         ensures value { result.now ≡ self.now }
         ensures fits { length result.now ≤ MOST }
     {
-        &self.places[..self.count]
+        &self.items[..self.count]
     }
 }

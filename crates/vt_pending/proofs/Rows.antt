@@ -128,11 +128,11 @@ module _ {P : Type 0} where
             let ours : List (Letter P) = filter (in_bucket (own x)) (filter (not_in_bucket b) xs) in
             let others : List (Letter P) = filter (not_in_bucket (own x)) xs in
             let all : AllAfter (letter_rank x) (filter (in_bucket b) xs) = every-filter _ (in_bucket b) xs rises.0 in
-            let place : put_some (filter (in_bucket b) xs) (list ∷ lists) ≡ (x ∷ ours) ∷ put_some (filter (in_bucket b) xs) lists =
+            let stands : put_some (filter (in_bucket b) xs) (list ∷ lists) ≡ (x ∷ ours) ∷ put_some (filter (in_bucket b) xs) lists =
             ap (λ l. put_some (filter (in_bucket b) xs) (l ∷ lists)) r.0 ∙ put-behind x ours (filter (in_bucket b) xs) lists all in
             let rest : IsRow lists (filter (not_in_bucket b) others) = subst (IsRow lists) (filter-swap (not_in_bucket (own x)) (not_in_bucket b) xs) r.1 in
             let more : IsRow (put_some (filter (in_bucket b) others) lists) others = row-put b lists others (rising-filter _ (not_in_bucket (own x)) xs rises.1) rest in
-            subst (λ ls. IsRow ls (x ∷ xs)) (sym place) (
+            subst (λ ls. IsRow ls (x ∷ xs)) (sym stands) (
               ap (λ l. x ∷ l) (filter-within (in_bucket (own x)) (not_in_bucket b) (apart-back b x e) xs),
               subst (λ l. IsRow (put_some l lists) others) (filter-within (in_bucket b) (not_in_bucket (own x)) (apart b x e) xs) more,
             )
@@ -173,17 +173,17 @@ module _ {P : Type 0} where
             elim (rank_before s r) as (λ t. rank_before s r ≡ t → IsRow (if t then mine ∷ insert_in b x lists else (x ∷ list_at b lists) ∷ mine ∷ without_list b lists) (insert_letter x (y ∷ ys))) [
               | true ↦ λ f.
                   let away : not_in_bucket (own y) x ≡ true = apart b y e x (in-own x) in
-                  let place : insert_letter x (y ∷ ys) ≡ y ∷ insert_letter x ys = ap (λ t. if t then x ∷ y ∷ ys else y ∷ insert_letter x ys) (not-back s r (rank_before-true s r f)) in
+                  let stands : insert_letter x (y ∷ ys) ≡ y ∷ insert_letter x ys = ap (λ t. if t then x ∷ y ∷ ys else y ∷ insert_letter x ys) (not-back s r (rank_before-true s r f)) in
                   let absent : holds_rank r others ≡ false = holds-filter r (not_in_bucket (own y)) ys (second-false (has_rank r y) (holds_rank r ys) none) in
-                  subst (IsRow (mine ∷ insert_in b x lists)) (sym place) (
+                  subst (IsRow (mine ∷ insert_in b x lists)) (sym stands) (
                     ap (λ l. y ∷ l) (sym (filter-insert-other (in_bucket (own y)) x ys (not-true (in_bucket (own y) x) away))),
                     subst (IsRow (insert_in b x lists)) (sym (filter-insert (not_in_bucket (own y)) x ys away rises.1)) (row-insert x lists others (rising-filter _ (not_in_bucket (own y)) ys rises.1) absent row.1),
                   )
               | false ↦ λ f.
                   let before : rank_before r s ≡ true = before-rank_before r s (follows s r f (first-false (has_rank r y) (holds_rank r ys) none)) in
-                  let place : insert_letter x (y ∷ ys) ≡ x ∷ y ∷ ys = ap (λ t. if t then x ∷ y ∷ ys else y ∷ insert_letter x ys) before in
+                  let stands : insert_letter x (y ∷ ys) ≡ x ∷ y ∷ ys = ap (λ t. if t then x ∷ y ∷ ys else y ∷ insert_letter x ys) before in
                   let ours : IsRow (mine ∷ lists) (y ∷ ys) = (refl, row.1) in
-                  subst (IsRow ((x ∷ list_at b lists) ∷ mine ∷ without_list b lists)) (sym place) (
+                  subst (IsRow ((x ∷ list_at b lists) ∷ mine ∷ without_list b lists)) (sym stands) (
                     ap (λ l. x ∷ l) (sym (ap (λ c. if c then mine else list_at b lists) e) ∙ row-list b (mine ∷ lists) (y ∷ ys) ours),
                     subst (λ ls. IsRow ls (filter (not_in_bucket b) (y ∷ ys))) (ap (λ c. if c then lists else mine ∷ without_list b lists) e) (row-without b (mine ∷ lists) (y ∷ ys) ours),
                   )

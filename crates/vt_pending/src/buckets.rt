@@ -122,7 +122,7 @@ pub(crate) fn insert_in<P: Copy>(
     ensures held { IfErr result (λ _. holds_rank letter.event.rank (letters_of lists.old) ≡ true) }
     ensures unchanged { IfErr result (λ back. (back ≡ letter) × (lists.new ≡ lists.old)) }
 {
-    let passed = lists.pass(&Place(letter.get().event.rank));
+    let passed = lists.pass(&Belongs(letter.get().event.rank));
     let put = insert_here(mask, lists, number, letter, alloc);
     lists.join(passed);
     put
@@ -172,9 +172,9 @@ fn put_new<P: Copy>(
     ensures held { IfErr result (λ _. reached_has letter.event.rank list.old ≡ true) }
     ensures unchanged { IfErr result (λ back. (back ≡ letter) × (list.new ≡ list.old)) }
 {
-    let place = NotBefore(letter.get().event.rank);
-    let passed = list.pass(&place);
-    if has_rank(list.front(), place.0) {
+    let limit = NotBefore(letter.get().event.rank);
+    let passed = list.pass(&limit);
+    if has_rank(list.front(), limit.0) {
         list.join(passed);
         return Err(letter);
     }
@@ -186,12 +186,12 @@ fn put_new<P: Copy>(
 /// Lets a letter pass that belongs in the list of this rank, or isn't before this rank. Letters of other lists have
 /// other ticks, so the ticks alone tell their order.
 #[derive(Drop)]
-struct Place(Rank);
+struct Belongs(Rank);
 
-impl<P> Predicate<Letter<P>> for Place {
-    ghost use Rattle.vt_pending.specs.inside.Buckets.{is_place};
+impl<P> Predicate<Letter<P>> for Belongs {
+    ghost use Rattle.vt_pending.specs.inside.Buckets.{belongs};
 
-    ghost passes = { λ t letter. is_place t.0 letter };
+    ghost passes = { λ t letter. belongs t.0 letter };
 
     fn test(&self, letter: &Letter<P>) -> bool {
         bucket(letter.event.rank) == bucket(self.0) || !is_earlier(&letter.event.rank, &self.0)

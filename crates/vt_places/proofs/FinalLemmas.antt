@@ -17,7 +17,7 @@ use Rattle.vt_steps.specs.promise.Next.{reached}
 use Rattle.vt_steps.specs.promise.World.{World, opening_world, process_at, process_count}
 use Rattle.vt_steps.proofs.history.FinalValues.{quiet-at_end, quiet-values}
 use Rattle.vt_steps.proofs.steps.LocalLeads.{local-does}
-use Rattle.vt_steps.proofs.lists.Places.{get-map, get-range}
+use Rattle.vt_steps.proofs.lists.Indices.{get-map, get-range}
 use Rattle.vt_kernel.specs.inside.Held.{HeldWorker}
 use Rattle.vt_places.specs.declared.view.View.{View}
 use Rattle.vt_places.specs.inside.Calls.{IsShown, Reaches}

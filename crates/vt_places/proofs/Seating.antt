@@ -17,7 +17,7 @@ use Rattle.vt_steps.specs.inside.Marked.{Marked, own_steps}
 use Rattle.vt_steps.specs.promise.Next.{run}
 use Rattle.vt_steps.proofs.marks.MarkedRuns.{own-others}
 use Rattle.vt_steps.proofs.steps.LocalLeads.{run-others_part}
-use Rattle.vt_steps.proofs.lists.Places.{get-map_range}
+use Rattle.vt_steps.proofs.lists.Indices.{get-map_range}
 use Rattle.vt_places.specs.declared.slot.Slot.{Slot}
 use Rattle.vt_places.specs.declared.view.View.{View}
 use Rattle.vt_places.specs.inside.Hands.{empty_hand, holding}

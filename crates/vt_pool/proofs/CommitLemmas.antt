@@ -46,13 +46,13 @@ module _ {P K : Type 0} (w : ℕ) where
   -- the times of each process's events rise, since their ranks do
   pub in-order : (es : List (Logged P K)) → AreRisingPasts (map (placed w) es) → AreInOrder es
   in-order es rises p =
-      let ranks = λ (d e : Logged P K). (placed w d).place ≡ (placed w e).place → RankBefore (placed_rank (placed w d)) (placed_rank (placed w e)) in
+      let ranks = λ (d e : Logged P K). (placed w d).index ≡ (placed w e).index → RankBefore (placed_rank (placed w d)) (placed_rank (placed w e)) in
       rising-weaker ranks (λ (d e : Logged P K). TimeAtMost (time_of d) (time_of e)) (events_of p es)
       (λ d e there also before.
       let mine : d.process ≡ p = eqb-true d.process p (filter-among (is_of p) d es there).1 in
       let other : e.process ≡ p = eqb-true e.process p (filter-among (is_of p) e es also).1 in
       rank-order-time (placed_rank (placed w d)) (placed_rank (placed w e)) (before (mine ∙ sym other)))
-      (rising-filter ranks (is_of p) es (rising-unmap (placed w) (λ (d e : Placed P K). d.place ≡ e.place → RankBefore (placed_rank d) (placed_rank e)) es rises))
+      (rising-filter ranks (is_of p) es (rising-unmap (placed w) (λ (d e : Placed P K). d.index ≡ e.index → RankBefore (placed_rank d) (placed_rank e)) es rises))
 
 -- ---- how what is left fits
 
@@ -76,7 +76,7 @@ module _ {S P K : Type 0} {config : Config} {w : ℕ} {stock : Stock S P K} (flo
     own_past = every-filter (IsWorkersEvent config w) (stays floor) stock.past h.own_past;
     pending_rises = h.pending_rises;
     waiting_rises = h.waiting_rises;
-    pasts_rise = rising-filter (λ (d e : Placed P K). d.place ≡ e.place → RankBefore (placed_rank d) (placed_rank e)) (stays floor) stock.past h.pasts_rise;
+    pasts_rise = rising-filter (λ (d e : Placed P K). d.index ≡ e.index → RankBefore (placed_rank d) (placed_rank e)) (stays floor) stock.past h.pasts_rise;
     pending_stamps = h.pending_stamps;
     waiting_stamps = h.waiting_stamps;
     past_stamps = rising-filter (λ (d e : Placed P K). (placed_rank d).stamp ≡ (placed_rank e).stamp → ⊥) (stays floor) stock.past h.past_stamps;

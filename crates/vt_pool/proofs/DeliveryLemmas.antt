@@ -20,7 +20,7 @@ use Rattle.vt_model.specs.promise.Handler.{Handlers}
 use Rattle.vt_model.specs.promise.Settings.{end_of}
 use Rattle.vt_steps.specs.promise.Letters.{stamped, signed}
 use Rattle.vt_steps.specs.promise.PartSteps.{is_for}
-use Rattle.vt_steps.proofs.lists.Places.{get-put_same}
+use Rattle.vt_steps.proofs.lists.Indices.{get-put_same}
 use Rattle.vt_kernel.proofs.Written.{put-there}
 use Rattle.vt_lp.specs.inside.Held.{AllWithinRun, IsWithinRun}
 use Rattle.vt_pool.specs.inside.View.{Placed, Stock}

@@ -53,14 +53,14 @@ use Rattle.vt_pool.specs.inside.Steps.{executed_in, LeadsTo}
 use Rattle.vt_pool.specs.inside.Inside.{IsWorkersLetter, IsHeard, ComesAfter, AreSettled, nodes_of, placed_rank, IsStockInside, IsPoolInside}
 use Rattle.vt_pool.specs.inside.Share.{HeldShare, HeldPool, with_pool, seen, PoolLeadsTo}
 use Rattle.vt_pool.specs.inside.Executing.{past_of, fired_by, pool_after_execute, IsFired, IsLedBy, HasExecuted, IsNotExecuted}
-use Rattle.vt_pool.proofs.ViewLemmas.{number-place, number-own, place-own, get-in, are-from, to-first}
+use Rattle.vt_pool.proofs.ViewLemmas.{number-index, number-own, index-own, get-in, are-from, to-first}
 use Rattle.vt_pool.proofs.GuardLemmas.{may-execute}
 use Rattle.vt_pool.proofs.InsideLemmas.{executed-inside}
 use Rattle.vt_pool.proofs.KeptLemmas.{nodes-more}
 use Rattle.vt_pool.proofs.PoolLemmas.{streams-moved}
-use Rattle.vt_pool.proofs.ReceiveLemmas.{number-of, place-there}
+use Rattle.vt_pool.proofs.ReceiveLemmas.{number-of, index-there}
 use Rattle.vt_pool.proofs.StepLemmas.{execute-done}
-use Rattle.vt_pool.proofs.ShareLemmas.{IsPlaceOf}
+use Rattle.vt_pool.proofs.ShareLemmas.{IsIndexOf}
 
 -- ---- how the fields of a pool go together
 
@@ -83,7 +83,7 @@ module _ {S P K : Type 0} (handlers : Handlers S P K) {config : Config} {w : ℕ
       → IsPoolInside config w (executed_in i (past_of w entry sends records) rest now stock) (slice_set streams i after) letters next until heard left
   pool-executed i triple now letter rest entry sends records before after until letters next left fired known plus first later at key process late soon posted count room =
       let event : PastEvent P K = past_of w entry sends records in
-      let e : Placed P K = record { place = i; event = event } in
+      let e : Placed P K = record { index = i; event = event } in
       let own = fired.own w in
       let brought : event.letter ≡ letter = λ j. record { event = fired.event_is j; sign = sym plus j } in
       let was_heard : AllByRecursion (λ (l : Letter P). IsHeard heard (letter_rank l).stamp) (letter ∷ rest) =
@@ -159,7 +159,7 @@ led-by {P = P} handlers old mid new step part worker config done leads =
     }
 
 module _ {S P K : Type 0} (handlers : Handlers S P K) (old : HeldShare S P K) (known : old.worker < old.config.workers) (inside : IsStockInside old.config old.worker old.stock)
-    (i : ℕ) (triple : Triple S) (letter : Letter P) (rest : List (Letter P)) (at : slice_get old.stock.triples i ≡ Some triple) (first : old.stock.pending ≡ letter ∷ rest) (place : IsPlaceOf old i letter)
+    (i : ℕ) (triple : Triple S) (letter : Letter P) (rest : List (Letter P)) (at : slice_get old.stock.triples i ≡ Some triple) (first : old.stock.pending ≡ letter ∷ rest) (index : IsIndexOf old i letter)
     (after : ComesAfter old.stock.past letter) where
   abbrev pub number : ℕ
   number = number_at old.config old.worker i
@@ -168,12 +168,12 @@ module _ {S P K : Type 0} (handlers : Handlers S P K) (old : HeldShare S P K) (k
   mine = (subst (AllByRecursion (IsWorkersLetter old.config old.worker Plus)) first inside.own_pending).0
 
   within : number < old.config.lps
-  within = subst (λ q. q < old.config.lps) place mine.within.known
+  within = subst (λ q. q < old.config.lps) index mine.within.known
 
   -- its process, in memory and in the part
   there : (part : Part P) → StandsFor handlers (seen old) part → IsFound handlers (seen old) part number (process_in old.config old.worker i triple old.stock)
   there part s =
-      found-at handlers (seen old) (are-from old.config old.worker 0 old.stock.triples old.stock) part s (place-own old.config old.worker known i within) (get-in old.config old.worker i triple old.stock at)
+      found-at handlers (seen old) (are-from old.config old.worker 0 old.stock.triples old.stock) part s (index-own old.config old.worker known i within) (get-in old.config old.worker i triple old.stock at)
 
   -- the process stands for one of the part
   pub stands-there : (part : Part P) → StandsFor handlers (seen old) part → (process : LogicalProcess P) × ProcessStandsFor handlers (process_in old.config old.worker i triple old.stock) process
@@ -189,13 +189,13 @@ module _ {S P K : Type 0} (handlers : Handlers S P K) (old : HeldShare S P K) (k
       let held = seen old in
       let q : HeldProcess S P K = process_in config w i triple old.stock in
       let f = there part s in
-      let may = may-execute config w i letter old.stock.past inside.own_past after place in
-      let pending : q.pending ≡ letter ∷ letters_to number rest = ap (letters_to number) first ∙ to-first number letter rest place in
+      let may = may-execute config w i letter old.stock.past inside.own_past after index in
+      let pending : q.pending ≡ letter ∷ letters_to number rest = ap (letters_to number) first ∙ to-first number letter rest index in
       let ready : Some letter.event ≡ ready_event q.pending q.past =
       sym (ap (λ ls. ready_event ls q.past) pending ∙ ap (λ (b : Bool). if b then Some letter.event else None) may) in
       let at_process : ProcessRefusal sim number old.serial (execute_process sim number w old.serial f.process) fault = refuses handlers q w old.serial f.process number letter.event fault f.stands ready refl why in
       let one : execute_process sim number w old.serial f.process ≡ execute-step handlers held part number f.process =
-      λ j. execute_process sim (sym (number-place config w known i) j * config.workers + w) w (sym s.serial j) f.process in
+      λ j. execute_process sim (sym (number-index config w known i) j * config.workers + w) w (sym s.serial j) f.process in
       let own = number-own config w known i in
       subst (λ x. IsExecuteRefusal sim number x fault) (sym (own-execute sim w number part ∙ own-step sim w number (execute-step handlers held part number) part f.process own f.there))
       (refusal-at handlers held part number (execute-step handlers held part number f.process) f.process fault s f.there (subst (λ x. ProcessRefusal sim number old.serial x fault) one at_process))
@@ -217,8 +217,8 @@ module _ {S P K : Type 0} (handlers : Handlers S P K) (old : HeldShare S P K) (k
       let event_is : past_of w entry sends records ≡ past_event letter undo_entry records = λ j. past_event (record { event = fired.event_is j; sign = sym mine.signed j }) undo_entry records in
       let anti : undo_entry.anti_messages ≡ map (signed Minus) (stamped w old.serial (fired_by handlers old.config number triple letter.event).sends) = λ j. map (signed Minus) (stamped w (fired.serial_is j) (fired.sends_are j)) in
       subst (λ (e : PastEvent P K). IsDone handlers (seen (record old { stock = executed_in i e rest now old.stock; outbox = outbox; serial = serial })) step) (sym event_is)
-      (execute-done handlers (seen old) old.stock refl known part s i triple now letter rest undo_entry records outbox serial within at first place mine.signed
-      (may-execute old.config w i letter old.stock.past inside.own_past after place) fired.triple
+      (execute-done handlers (seen old) old.stock refl known part s i triple now letter rest undo_entry records outbox serial within at first index mine.signed
+      (may-execute old.config w i letter old.stock.past inside.own_past after index) fired.triple
       (λ process st. subst (λ (ev : Event P). IsRemembered sim number triple (remembered handlers number (past_event (signed Plus ev) undo_entry records))) fired.event_is (kept process st))
       anti (ap (λ (xs : List (Sent P)). old.outbox ++ map (signed Plus) (stamped w old.serial xs)) fired.sends_are) (ap (λ (xs : List (Sent P)). old.serial + length xs) fired.sends_are))
 
@@ -226,7 +226,7 @@ module _ {S P K : Type 0} (handlers : Handlers S P K) (old : HeldShare S P K) (k
 
 module _ {S P K : Type 0} (handlers : Handlers S P K) (pool : HeldPool S P K) (known : pool.worker < pool.config.workers) (inside : IsStockInside pool.config pool.worker pool.stock)
     (i : ℕ) (triple : Triple S) (letter : Letter P) (later : List (Letter P)) (at : slice_get pool.stock.triples i ≡ Some triple) (first : pool.stock.pending ≡ letter ∷ later)
-    (place : letter.event.dest ≡ number_at pool.config pool.worker i) (after : ComesAfter pool.stock.past letter) where
+    (index : letter.event.dest ≡ number_at pool.config pool.worker i) (after : ComesAfter pool.stock.past letter) where
   -- the state of the letter's process can be, where the pool stands for a part
   pub can-be : (IsState : S → Type 0) → ((lps lp : ℕ) (words : ℕ → ℕ) → IsState (handlers.start lps lp words).state)
       → ((lps lp now : ℕ) (payload : P) (s : S) (words : ℕ → ℕ) → IsState s → IsState (handlers.forward lps lp now payload s words).state)
@@ -234,7 +234,7 @@ module _ {S P K : Type 0} (handlers : Handlers S P K) (pool : HeldPool S P K) (k
   can-be IsState start_state forward_state rest part s =
       let sim = simulation_of handlers pool.config in
       let q : HeldProcess S P K = process_in pool.config pool.worker i triple pool.stock in
-      let f = stands-there handlers (with_pool rest pool) known inside i triple letter later at first place after part s in
+      let f = stands-there handlers (with_pool rest pool) known inside i triple letter later at first index after part s in
       subst (λ (t : Triple S). IsState t.state) (is_where sim q.lp (process_memory handlers q) f.0 f.1)
       (after_state handlers pool.config IsState start_state forward_state q.lp (entry_events (f.0.done ++ f.0.past)))
 
@@ -246,8 +246,8 @@ module _ {S P K : Type 0} (handlers : Handlers S P K) (pool : HeldPool S P K) (k
     first = first;
     refused = λ rest part s.
         let held = seen (with_pool rest pool) in
-        subst (λ p. IsExecuteRefusal (simulation_of handlers pool.config) p (part_after handlers held (Execute p) part) fault) (sym place)
-        (execute-refused handlers (with_pool rest pool) known inside i triple letter later at first place after part fault s why);
+        subst (λ p. IsExecuteRefusal (simulation_of handlers pool.config) p (part_after handlers held (Execute p) part) fault) (sym index)
+        (execute-refused handlers (with_pool rest pool) known inside i triple letter later at first index after part fault s why);
   }
 
   module _ (now : Triple S) (entry : Entry P K) (sends : List (Sent P)) (records : List Record) (fired : IsFired handlers pool.config (number_at pool.config pool.worker i) letter.event pool.serial triple now entry sends records)
@@ -259,9 +259,9 @@ module _ {S P K : Type 0} (handlers : Handlers S P K) (pool : HeldPool S P K) (k
     led rest part s =
         let old = with_pool rest pool in
         let mid = with_pool rest (pool_after_execute i entry sends records later now pool) in
-        subst (λ p. IsLedBy handlers (Execute p) (seen old) part (seen (with_pool rest new))) (sym place)
+        subst (λ p. IsLedBy handlers (Execute p) (seen old) part (seen (with_pool rest new))) (sym index)
         (led-by handlers (seen old) (seen mid) (seen (with_pool rest new)) (Execute (number_at pool.config pool.worker i)) part refl refl
-        (execute-first handlers old known inside i triple letter later at first place after now entry sends records fired (λ process st. kept rest part s) part s) (home rest))
+        (execute-first handlers old known inside i triple letter later at first index after now entry sends records fired (λ process st. kept rest part s) part s) (home rest))
 
     pub has-executed : HasExecuted handlers pool new
     has-executed = record { letter = letter; later = later; first = first; steps = led }
@@ -303,14 +303,14 @@ pub record IsTaken {S P K : Type 0} (config : Config) (w : ℕ) (stock : Stock S
 
 pub taken : {S P K : Type 0} {config : Config} {w : ℕ} {stock : Stock S P K} (letter : Letter P) (rest : List (Letter P)) (i : ℕ) → w < config.workers → IsStockInside config w stock → AreSettled stock
     → stock.pending ≡ letter ∷ rest → i ≡ letter.event.dest / config.workers → IsTaken config w stock letter rest i
-taken {P = P} {config = config} {w = w} {stock = stock} letter rest i known inside settled first place =
+taken {P = P} {config = config} {w = w} {stock = stock} letter rest i known inside settled first index =
     let mine : IsWorkersLetter config w Plus letter = (subst (AllByRecursion (IsWorkersLetter config w Plus)) first inside.own_pending).0 in
-    let number = number-of config w letter.event.dest i place mine.own in
+    let number = number-of config w letter.event.dest i index mine.own in
     record {
       mine = mine;
       number = number;
       known = subst (λ p. p < config.lps) number mine.within.known;
-      within = place-there letter.event.dest i known inside place mine.own mine.within.known;
+      within = index-there letter.event.dest i known inside index mine.own mine.within.known;
       later = (subst (AllByRecursion (ComesAfter stock.past)) first settled).0;
       before = (subst IsRising first inside.pending_rises).0;
     }

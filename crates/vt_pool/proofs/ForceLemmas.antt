@@ -58,14 +58,14 @@ ends-before rank (Some d) is e at =
     turned false h = absurd (let k : true ≡ false = h in cc)
 
 module _ {S P K : Type 0} (handlers : Handlers S P K) (pool : HeldPool S P K) (known : pool.worker < pool.config.workers) (inside : IsStockInside pool.config pool.worker pool.stock)
-    (letter : Letter P) (waits : List (Letter P)) (place : ℕ) (dest : letter.event.dest ≡ number_at pool.config pool.worker place) (forces : Among letter pool.stock.pending ⊎ Among letter waits) where
+    (letter : Letter P) (waits : List (Letter P)) (index : ℕ) (dest : letter.event.dest ≡ number_at pool.config pool.worker index) (forces : Among letter pool.stock.pending ⊎ Among letter waits) where
   -- an event that isn't before the letter has to be undone
-  forced : (event : PastEvent P K) → last_or None (past_at place pool.stock.past) ≡ Some event → rank_before event.letter.event.rank (letter_rank letter) ≡ false
-      → must_undo_last (letters_to (number_at pool.config pool.worker place) pool.stock.pending) (letters_to (number_at pool.config pool.worker place) waits) (Some event) ≡ true
+  forced : (event : PastEvent P K) → last_or None (past_at index pool.stock.past) ≡ Some event → rank_before event.letter.event.rank (letter_rank letter) ≡ false
+      → must_undo_last (letters_to (number_at pool.config pool.worker index) pool.stock.pending) (letters_to (number_at pool.config pool.worker index) waits) (Some event) ≡ true
   forced event last late = elim forces [
     | inl pends ↦
-        let apart : IsStampedApart pool.stock.pending (record { place = place; event = event }) =
-        every-last_there place event pool.stock.past (last-there place event pool.stock.past last) (IsStampedApart pool.stock.pending) inside.apart in
+        let apart : IsStampedApart pool.stock.pending (record { index = index; event = event }) =
+        every-last_there index event pool.stock.past (last-there index event pool.stock.past last) (IsStampedApart pool.stock.pending) inside.apart in
         let other = every-among _ pool.stock.pending letter apart pends in
         let before : RankBefore (letter_rank letter) event.letter.event.rank = elim (rank-total (letter_rank letter) event.letter.event.rank) [
           | inl h ↦ h
@@ -74,19 +74,19 @@ module _ {S P K : Type 0} (handlers : Handlers S P K) (pool : HeldPool S P K) (k
             | inr k ↦ absurd (let e : true ≡ false = sym (before-rank_before event.letter.event.rank (letter_rank letter) k) ∙ late in cc)
           ]
         ] in
-        forced-by_message (number_at pool.config pool.worker place) event pool.stock.pending waits letter pends dest before
-    | inr waiting ↦ forced-by_anti_message (number_at pool.config pool.worker place) event pool.stock.pending waits letter waiting dest late
+        forced-by_message (number_at pool.config pool.worker index) event pool.stock.pending waits letter pends dest before
+    | inr waiting ↦ forced-by_anti_message (number_at pool.config pool.worker index) event pool.stock.pending waits letter waiting dest late
   ]
 
   -- its undo is a step
-  pub undo-forced : (triple : Triple S) (event : PastEvent P K) → slice_get pool.stock.triples place ≡ Some triple → last_or None (past_at place pool.stock.past) ≡ Some event
-      → rank_before event.letter.event.rank (letter_rank letter) ≡ false → PoolLeadsTo handlers (with_waiting waits pool) (with_waiting waits (pool_after_undo handlers place event triple pool))
+  pub undo-forced : (triple : Triple S) (event : PastEvent P K) → slice_get pool.stock.triples index ≡ Some triple → last_or None (past_at index pool.stock.past) ≡ Some event
+      → rank_before event.letter.event.rank (letter_rank letter) ≡ false → PoolLeadsTo handlers (with_waiting waits pool) (with_waiting waits (pool_after_undo handlers index event triple pool))
   undo-forced triple event at last late rest =
       let old : HeldShare S P K = with_pool rest (with_waiting waits pool) in
-      let new : HeldShare S P K = with_pool rest (with_waiting waits (pool_after_undo handlers place event triple pool)) in
-      let mine = every-last_there place event pool.stock.past (last-there place event pool.stock.past last) (IsWorkersEvent pool.config pool.worker) inside.own_past in
-      leads-step handlers (seen old) (seen new) (Undo (number_at pool.config pool.worker place)) refl refl
-      (λ part s. undo-done handlers (seen old) old.stock refl known part s place triple (way_back handlers (number_at pool.config pool.worker place) event triple) event new.outbox
+      let new : HeldShare S P K = with_pool rest (with_waiting waits (pool_after_undo handlers index event triple pool)) in
+      let mine = every-last_there index event pool.stock.past (last-there index event pool.stock.past last) (IsWorkersEvent pool.config pool.worker) inside.own_past in
+      leads-step handlers (seen old) (seen new) (Undo (number_at pool.config pool.worker index)) refl refl
+      (λ part s. undo-done handlers (seen old) old.stock refl known part s index triple (way_back handlers (number_at pool.config pool.worker index) event triple) event new.outbox
       mine.known at last mine.own inside.pending_rises (forced event last late) refl refl)
 
 -- the letter is still pending
@@ -97,6 +97,6 @@ still-pending letter other letters among = among-insert_ordered (λ (a b : Lette
 pub fewer-past : {P K : Type 0} (i : ℕ) (event : PastEvent P K) (es : List (Placed P K)) → last_or None (past_at i es) ≡ Some event → length (without_last_at i es) < length es
 fewer-past i event es last =
     let t = last-there i event es last in
-    let whole = ap length t.whole ∙ length-append t.front (record { place = i; event = event } ∷ t.back) in
+    let whole = ap length t.whole ∙ length-append t.front (record { index = i; event = event } ∷ t.back) in
     let left = ap length t.left ∙ length-append t.front t.back in
     omega (arith, whole, left)

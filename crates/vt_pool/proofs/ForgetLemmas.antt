@@ -23,11 +23,11 @@ use Rattle.vt_lp.specs.inside.Ripe.{is_ripe, unripe_events, rows_of_ripe}
 use Rattle.vt_lp.proofs.RipeLemmas.{commits, rows-ripe}
 use Rattle.vt_kernel.specs.inside.Held.{HeldWorker, StandsFor, AreProcesses}
 use Rattle.vt_kernel.proofs.CommitLemmas.{AllForgotten, stands-commit}
-use Rattle.vt_kernel.proofs.ProcessLemmas.{place-known}
+use Rattle.vt_kernel.proofs.ProcessLemmas.{index-known}
 use Rattle.vt_pool.specs.inside.View.{Placed, Stock, is_at, past_at, number_at, process_in, processes_from, processes_in}
 use Rattle.vt_pool.specs.inside.Inside.{AreRisingPasts, IsWorkersEvent, placed_rank, IsStockInside}
 use Rattle.vt_pool.specs.inside.Forgotten.{is_placed_ripe, unripe_placed, placed_rows, rows_of_placed, rows_of_held, forgotten_in}
-use Rattle.vt_pool.proofs.ViewLemmas.{past-here, past-elsewhere, are-from, number-place, number-own}
+use Rattle.vt_pool.proofs.ViewLemmas.{past-here, past-elsewhere, are-from, number-index, number-own}
 use Rattle.vt_pool.proofs.GuardLemmas.{every-past_at}
 
 -- ---- lists
@@ -65,7 +65,7 @@ module _ {P K : Type 0} where
   rising-at i (e ∷ es) rises = elim (cases_Bool (is_at i e)) [
     | inl is ↦ subst IsRisingPast (sym (past-here i e es is)) (
       every-past_at (λ (d : PastEvent P K). RankBefore e.event.letter.event.rank d.letter.event.rank) i es
-          (every-weaker _ (λ (d : Placed P K). d.place ≡ i → RankBefore (placed_rank e) (placed_rank d)) es (λ d before at. before (eqb-true e.place i is ∙ sym at)) rises.0),
+          (every-weaker _ (λ (d : Placed P K). d.index ≡ i → RankBefore (placed_rank e) (placed_rank d)) es (λ d before at. before (eqb-true e.index i is ∙ sym at)) rises.0),
       rising-at i es rises.1,
     )
     | inr is ↦ subst IsRisingPast (sym (past-elsewhere i e es is)) (rising-at i es rises.1)
@@ -147,33 +147,33 @@ module _ {P K : Type 0} (f : Row → ℕ) where
       omega (arith, here, rest)
 
   -- an event of none of them
-  total-outside : (base n : ℕ) (e : Placed P K) (es : List (Placed P K)) → (e.place < base) ⊎ (base + n ≤ e.place) → total base n (e ∷ es) ≡ total base n es
+  total-outside : (base n : ℕ) (e : Placed P K) (es : List (Placed P K)) → (e.index < base) ⊎ (base + n ≤ e.index) → total base n (e ∷ es) ≡ total base n es
   total-outside base zero e es out = refl
   total-outside base (suc n) e es out =
-      let other : e.place ≡ base → ⊥ = λ same. elim out [ inl before ↦ omega (arith, before, same) | inr after ↦ omega (arith, after, same) ] in
+      let other : e.index ≡ base → ⊥ = λ same. elim out [ inl before ↦ omega (arith, before, same) | inr after ↦ omega (arith, after, same) ] in
       let here : weight (past_at base (e ∷ es)) ≡ weight (past_at base es) =
-      ap weight (elim (cases_Bool (is_at base e)) [ inl is ↦ absurd (other (eqb-true e.place base is)) | inr is ↦ past-elsewhere base e es is ]) in
+      ap weight (elim (cases_Bool (is_at base e)) [ inl is ↦ absurd (other (eqb-true e.index base is)) | inr is ↦ past-elsewhere base e es is ]) in
       let rest = total-outside (base + 1) n e es (elim out [ inl before ↦ inl (omega (arith, before)) | inr after ↦ inr (omega (arith, after)) ]) in
       omega (arith, here, rest)
 
   -- an event of one of them
-  total-inside : (base n : ℕ) (e : Placed P K) (es : List (Placed P K)) → base ≤ e.place → e.place < base + n → total base n (e ∷ es) ≡ sum_by f (event_rows e.event) + total base n es
+  total-inside : (base n : ℕ) (e : Placed P K) (es : List (Placed P K)) → base ≤ e.index → e.index < base + n → total base n (e ∷ es) ≡ sum_by f (event_rows e.event) + total base n es
   total-inside base zero e es from to = absurd (omega (arith, from, to))
   total-inside base (suc n) e es from to = elim (cases_Bool (is_at base e)) [
     | inl is ↦
-        let at : e.place ≡ base = eqb-true e.place base is in
+        let at : e.index ≡ base = eqb-true e.index base is in
         let here : weight (past_at base (e ∷ es)) ≡ sum_by f (event_rows e.event) + weight (past_at base es) = ap weight (past-here base e es is) ∙ sum_by-append f (event_rows e.event) (flat_map event_rows (past_at base es)) in
         let rest = total-outside (base + 1) n e es (inl (omega (arith, at))) in
         omega (arith, here, rest)
     | inr is ↦
-        let other : e.place ≡ base → ⊥ = eqb-false e.place base is in
+        let other : e.index ≡ base → ⊥ = eqb-false e.index base is in
         let here : weight (past_at base (e ∷ es)) ≡ weight (past_at base es) = ap weight (past-elsewhere base e es is) in
         let rest = total-inside (base + 1) n e es (omega (arith, from, other)) (omega (arith, to)) in
         omega (arith, here, rest)
   ]
 
   -- all events are of some of the processes
-  total-all : (n : ℕ) (es : List (Placed P K)) → AllByRecursion (λ (e : Placed P K). e.place < n) es → total 0 n es ≡ sum_by f (flat_map placed_rows es)
+  total-all : (n : ℕ) (es : List (Placed P K)) → AllByRecursion (λ (e : Placed P K). e.index < n) es → total 0 n es ≡ sum_by f (flat_map placed_rows es)
   total-all n [] all = total-nothing 0 n [] refl
   total-all n (e ∷ es) all =
       let within = all.0 in
@@ -200,14 +200,14 @@ module _ {S P K : Type 0} (floor : Time) (config : Config) (w : ℕ) (stock : St
   rows-same known i f =
       let some : 1 ≤ config.workers = omega (arith, known) in
       let all_there = i.all_there in
-      let places : AllByRecursion (λ (e : Placed P K). e.place < length stock.triples) stock.past =
-      every-weaker (IsWorkersEvent config w) (λ (e : Placed P K). e.place < length stock.triples) stock.past
+      let indices : AllByRecursion (λ (e : Placed P K). e.index < length stock.triples) stock.past =
+      every-weaker (IsWorkersEvent config w) (λ (e : Placed P K). e.index < length stock.triples) stock.past
       (λ e mine.
-      let less = place-known config.lps config.workers w (number_at config w e.place) some mine.known (number-own config w known e.place) in
-      let place = number-place config w known e.place in
-      omega (arith, less, place, all_there)) i.own_past in
+      let less = index-known config.lps config.workers w (number_at config w e.index) some mine.known (number-own config w known e.index) in
+      let index = number-index config w known e.index in
+      omega (arith, less, index, all_there)) i.own_past in
       sum-from i.pasts_rise f 0 stock.triples
-      ∙ total-all {P = P} {K = K} f (length stock.triples) (filter (is_placed_ripe floor) stock.past) (every-filter (λ (e : Placed P K). e.place < length stock.triples) (is_placed_ripe floor) stock.past places)
+      ∙ total-all {P = P} {K = K} f (length stock.triples) (filter (is_placed_ripe floor) stock.past) (every-filter (λ (e : Placed P K). e.index < length stock.triples) (is_placed_ripe floor) stock.past indices)
 
 -- what a part commits, by the processes of a worker that stands for it
 module _ {S P K : Type 0} (handlers : Handlers S P K) (floor : Time) (config : Config) (w : ℕ) where

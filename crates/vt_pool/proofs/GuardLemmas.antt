@@ -44,10 +44,10 @@ differs-by_stamp a b apart = elim (cases_Bool (rank_same a b)) [ inl is ↦ absu
 
 module _ {P K : Type 0} where
   -- what each past event of a process has
-  pub every-past_at : (Q : PastEvent P K → Type 0) (i : ℕ) (es : List (Placed P K)) → AllByRecursion (λ (e : Placed P K). e.place ≡ i → Q e.event) es → AllByRecursion Q (past_at i es)
+  pub every-past_at : (Q : PastEvent P K → Type 0) (i : ℕ) (es : List (Placed P K)) → AllByRecursion (λ (e : Placed P K). e.index ≡ i → Q e.event) es → AllByRecursion Q (past_at i es)
   every-past_at Q i [] all = tt
   every-past_at Q i (e ∷ es) all = elim (cases_Bool (is_at i e)) [
-    | inl is ↦ subst (AllByRecursion Q) (sym (past-here i e es is)) (all.0 (eqb-true e.place i is), every-past_at Q i es all.1)
+    | inl is ↦ subst (AllByRecursion Q) (sym (past-here i e es is)) (all.0 (eqb-true e.index i is), every-past_at Q i es all.1)
     | inr is ↦ subst (AllByRecursion Q) (sym (past-elsewhere i e es is)) (every-past_at Q i es all.1)
   ]
 
@@ -68,7 +68,7 @@ module _ {P K : Type 0} where
   may-execute config w i letter es own after dest =
       after-all (past_at i es) letter.event.rank (every-past_at (λ (e : PastEvent P K). RankBefore e.letter.event.rank letter.event.rank) i es
       (every-both (IsWorkersEvent config w) (λ (e : Placed P K). e.event.letter.event.dest ≡ letter.event.dest → RankBefore (placed_rank e) (letter_rank letter))
-      (λ (e : Placed P K). e.place ≡ i → RankBefore (placed_rank e) (letter_rank letter)) es
+      (λ (e : Placed P K). e.index ≡ i → RankBefore (placed_rank e) (letter_rank letter)) es
       (λ e mine before at. before (mine.own.own.dest ∙ ap (number_at config w) at ∙ sym dest)) own after))
 
   -- ---- Undo
@@ -106,7 +106,7 @@ module _ {P K : Type 0} where
     new-message sign apart apart_past =
         let test = λ (e : PastEvent P K). rank_same e.letter.event.rank letter.event.rank in
         let none = none-any test (past_at i past) (every-past_at (λ (e : PastEvent P K). test e ≡ false) i past
-        (every-weaker _ (λ (e : Placed P K). e.place ≡ i → test e.event ≡ false) past (λ e other at. differs-by_stamp (placed_rank e) letter.event.rank other) apart_past)) in
+        (every-weaker _ (λ (e : Placed P K). e.index ≡ i → test e.event ≡ false) past (λ e other at. differs-by_stamp (placed_rank e) letter.event.rank other) apart_past)) in
         ap (λ (s : Sign). holds_letter (letters_to p pending) (letters_to p waiting) (past_at i past) s letter.event.rank) sign
         ∙ (λ j. none-of pending apart j || none j)
 

@@ -9,13 +9,13 @@ use Rattle.vt_key.proofs.ListLemmas.{find-passes}
 use Rattle.vt_model.specs.promise.Handler.{Handlers}
 use Rattle.vt_model.specs.promise.Settings.{end_of}
 use Rattle.vt_steps.specs.promise.PartSteps.{is_for}
-use Rattle.vt_steps.proofs.lists.Places.{get-within}
+use Rattle.vt_steps.proofs.lists.Indices.{get-within}
 use Rattle.vt_lp.specs.inside.Held.{IsWithinRun}
 use Rattle.vt_kernel.proofs.DeliveryLemmas.{find-all}
 use Rattle.vt_pool.specs.inside.Inside.{IsHeard, IsStockInside}
 use Rattle.vt_pool.specs.inside.Share.{HeldPool, PoolLeadsTo, with_pool}
 use Rattle.vt_pool.specs.inside.Pool.{MayCome, holds_stamp, weight_of, with_letter}
-use Rattle.vt_pool.proofs.ReceiveLemmas.{number-of, place-there}
+use Rattle.vt_pool.proofs.ReceiveLemmas.{number-of, index-there}
 use Rattle.vt_pool.proofs.ShareLemmas.{home-leads}
 use Rattle.vt_outbox.proofs.OutboxLemmas.{length-without}
 
@@ -54,6 +54,6 @@ module _ {S P K : Type 0} (old noted taken : HeldPool S P K) (letter : Letter P)
   home-pool-leads handlers known inside =
       subst (λ (v : HeldPool S P K). PoolLeadsTo handlers old (with_letter letter v)) (sym taken-is)
       (λ rest.
-      let place = letter.event.dest / old.config.workers in
-      let t = get-within old.stock.triples place (place-there letter.event.dest place known inside refl own within.known) in
-      home-leads handlers (with_pool rest old) known inside place t.0 letter t.1 found (number-of old.config old.worker letter.event.dest place refl own) within.known new)
+      let index = letter.event.dest / old.config.workers in
+      let t = get-within old.stock.triples index (index-there letter.event.dest index known inside refl own within.known) in
+      home-leads handlers (with_pool rest old) known inside index t.0 letter t.1 found (number-of old.config old.worker letter.event.dest index refl own) within.known new)

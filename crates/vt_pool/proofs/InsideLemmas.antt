@@ -78,7 +78,7 @@ module _ {P K : Type 0} (i : ℕ) (event : PastEvent P K) where
   pub record IsLastThere (es : List (Placed P K)) : Type 0 where
     pub front : List (Placed P K)
     pub back : List (Placed P K)
-    pub whole : es ≡ front ++ record { place = i; event = event } ∷ back
+    pub whole : es ≡ front ++ record { index = i; event = event } ∷ back
     pub left : without_last_at i es ≡ front ++ back
     pub none_after : list_any (is_at i) back ≡ false
 
@@ -104,7 +104,7 @@ module _ {P K : Type 0} (i : ℕ) (event : PastEvent P K) where
               record {
                 front = [];
                 back = es;
-                whole = λ j. record { place = eqb-true e.place i is j; event = same j } ∷ es;
+                whole = λ j. record { index = eqb-true e.index i is j; event = same j } ∷ es;
                 left = λ j. left (is j) (none j);
                 none_after = none;
               }
@@ -128,15 +128,15 @@ module _ {P K : Type 0} (i : ℕ) (event : PastEvent P K) where
         subst (AllByRecursion Q) (sym t.left) (every-append Q t.front t.back (every-left Q t.front _ parted) (every-right Q t.front _ parted).1)
 
     -- and it has it
-    pub every-last_there : (Q : Placed P K → Type 0) → AllByRecursion Q es → Q (record { place = i; event = event })
+    pub every-last_there : (Q : Placed P K → Type 0) → AllByRecursion Q es → Q (record { index = i; event = event })
     every-last_there Q all = (every-right Q t.front _ (subst (AllByRecursion Q) t.whole all)).0
 
     pub rising-left_there : (R : Placed P K → Placed P K → Type 0) → IsRisingBy R es → IsRisingBy R (without_last_at i es)
     rising-left_there R rises = subst (IsRisingBy R) (sym t.left) (rising-parted R t.front t.back _ (subst (IsRisingBy R) t.whole rises))
 
     -- R holds of it with each that is left, where R goes both ways
-    pub sides_there : (R : Placed P K → Placed P K → Type 0) → ((d e : Placed P K) → R d e → R e d) → IsRisingBy R es → AllByRecursion (R (record { place = i; event = event })) (without_last_at i es)
-    sides_there R both rises = subst (AllByRecursion (R (record { place = i; event = event }))) (sym t.left) (sides R t.front t.back _ both (subst (IsRisingBy R) t.whole rises))
+    pub sides_there : (R : Placed P K → Placed P K → Type 0) → ((d e : Placed P K) → R d e → R e d) → IsRisingBy R es → AllByRecursion (R (record { index = i; event = event })) (without_last_at i es)
+    sides_there R both rises = subst (AllByRecursion (R (record { index = i; event = event }))) (sym t.left) (sides R t.front t.back _ both (subst (IsRisingBy R) t.whole rises))
 
 -- ---- what is kept fits
 
@@ -152,7 +152,7 @@ module _ {S P K : Type 0} {config : Config} {w : ℕ} {stock : Stock S P K} (h :
       → ComesAfter stock.past letter → now.number ≤ MAX_COUNT → number_at config w i < config.lps → IsOwnEvent config (number_at config w i) event
       → IsStockInside config w (executed_in i event rest now stock)
   executed-inside i now letter rest event first brought after few known own =
-      let e : Placed P K = record { place = i; event = event } in
+      let e : Placed P K = record { index = i; event = event } in
       let rank : placed_rank e ≡ letter_rank letter = ap (λ (l : Letter P). letter_rank l) brought in
       let stamp : (placed_rank e).stamp ≡ (letter_rank letter).stamp = ap (λ (r : Rank). r.stamp) rank in
       let stamps : HaveOwnStamps (letter ∷ rest) = subst HaveOwnStamps first h.pending_stamps in
@@ -166,7 +166,7 @@ module _ {S P K : Type 0} {config : Config} {w : ℕ} {stock : Stock S P K} (h :
         pending_rises = (subst IsRising first h.pending_rises).1;
         waiting_rises = h.waiting_rises;
         pasts_rise = rising-more _ stock.past e h.pasts_rise
-            (every-both _ _ (λ (d : Placed P K). d.place ≡ i → RankBefore (placed_rank d) (placed_rank e)) stock.past
+            (every-both _ _ (λ (d : Placed P K). d.index ≡ i → RankBefore (placed_rank d) (placed_rank e)) stock.past
             (λ d mine before at. subst (RankBefore (placed_rank d)) (sym rank)
             (before (mine.own.own.dest ∙ ap (number_at config w) at ∙ sym own.own.dest ∙ ap (λ (l : Letter P). l.event.dest) brought))) h.own_past after);
         pending_stamps = stamps.1;
@@ -182,7 +182,7 @@ module _ {S P K : Type 0} {config : Config} {w : ℕ} {stock : Stock S P K} (h :
   pub undone-inside : (i : ℕ) (now : Triple S) (event : PastEvent P K) → w < config.workers → last_or None (past_at i stock.past) ≡ Some event → now.number ≤ MAX_COUNT → IsStockInside config w (undone_in i event now stock)
   undone-inside i now event within last few =
       let t = last-there i event stock.past last in
-      let e : Placed P K = record { place = i; event = event } in
+      let e : Placed P K = record { index = i; event = event } in
       let mine : IsWorkersEvent config w e = every-last_there i event stock.past t (IsWorkersEvent config w) h.own_past in
       let apart : IsStampedApart stock.pending e = every-last_there i event stock.past t (IsStampedApart stock.pending) h.apart in
       let other : AllByRecursion (λ (l : Letter P). (letter_rank event.letter).stamp ≡ (letter_rank l).stamp → ⊥) stock.pending =

@@ -5,7 +5,7 @@ use Rattle.std.proofs.lemmas.Bool.Decides.{eqb_tells}
 use Rattle.std.proofs.lemmas.List.Sums.{sum_by-append, sum_by-cons}
 use Rattle.vt_key.specs.declared.order.Stamp.{Stamp}
 use Rattle.vt_past.specs.declared.event.PastEvent.{PastEvent}
-use Rattle.vt_steps.proofs.lists.Places.{get-put_same, get-put_other}
+use Rattle.vt_steps.proofs.lists.Indices.{get-put_same, get-put_other}
 use Rattle.vt_pool.specs.inside.View.{Placed, past_at, without_last_at}
 use Rattle.vt_pool.specs.inside.Inside.{IsHeard, nodes_of}
 use Rattle.vt_pool.proofs.InsideLemmas.{last-there}
@@ -14,9 +14,9 @@ use Rattle.vt_pool.proofs.InsideLemmas.{last-there}
 
 module _ {P K : Type 0} where
   -- an event more
-  pub nodes-more : (i : ℕ) (event : PastEvent P K) (es : List (Placed P K)) → sum_by nodes_of (es ++ record { place = i; event = event } ∷ []) ≡ sum_by nodes_of es + (1 + length event.anti_messages)
+  pub nodes-more : (i : ℕ) (event : PastEvent P K) (es : List (Placed P K)) → sum_by nodes_of (es ++ record { index = i; event = event } ∷ []) ≡ sum_by nodes_of es + (1 + length event.anti_messages)
   nodes-more i event es =
-      let e : Placed P K = record { place = i; event = event } in
+      let e : Placed P K = record { index = i; event = event } in
       let both : sum_by nodes_of (es ++ e ∷ []) ≡ sum_by nodes_of es + sum_by nodes_of (e ∷ []) = sum_by-append nodes_of es (e ∷ []) in
       let one = sum_by-cons nodes_of e [] in
       omega (arith, both, one)
@@ -25,7 +25,7 @@ module _ {P K : Type 0} where
   pub nodes-less : (i : ℕ) (event : PastEvent P K) (es : List (Placed P K)) → last_or None (past_at i es) ≡ Some event
       → sum_by nodes_of es ≡ sum_by nodes_of (without_last_at i es) + (1 + length event.anti_messages)
   nodes-less i event es last =
-      let e : Placed P K = record { place = i; event = event } in
+      let e : Placed P K = record { index = i; event = event } in
       let t = last-there i event es last in
       let whole : sum_by nodes_of es ≡ sum_by nodes_of t.front + sum_by nodes_of (e ∷ t.back) = ap (sum_by nodes_of) t.whole ∙ sum_by-append nodes_of t.front (e ∷ t.back) in
       let left : sum_by nodes_of (without_last_at i es) ≡ sum_by nodes_of t.front + sum_by nodes_of t.back = ap (sum_by nodes_of) t.left ∙ sum_by-append nodes_of t.front t.back in

@@ -9,14 +9,14 @@ use Rattle.vt_key.proofs.ListLemmas.{every-filter, every-last}
 use Rattle.vt_model.specs.declared.settings.Config.{Config}
 use Rattle.vt_past.specs.declared.event.PastEvent.{PastEvent}
 use Rattle.vt_lp.proofs.Stamping.{length-letters}
-use Rattle.vt_kernel.proofs.ProcessLemmas.{place-known}
+use Rattle.vt_kernel.proofs.ProcessLemmas.{index-known}
 use Rattle.vt_model.specs.declared.sending.Sent.{Sent}
 use Rattle.vt_logs.specs.declared.entry.Entry.{Entry}
 use Rattle.vt_logs.specs.inside.Events.{Logged, is_of, events_of, last_of, without_last}
 use Rattle.vt_pool.specs.inside.Logged.{placed}
 use Rattle.vt_pool.specs.inside.View.{Placed, Stock, is_at, past_at, without_last_at, number_at}
 use Rattle.vt_pool.specs.inside.Inside.{IsWorkersEvent, IsStockInside, nodes_of}
-use Rattle.vt_pool.proofs.ViewLemmas.{number-place, number-own}
+use Rattle.vt_pool.proofs.ViewLemmas.{number-index, number-own}
 use Rattle.vt_pool.proofs.InsideLemmas.{last-there, every-last_there}
 use Rattle.vt_pool.proofs.KeptLemmas.{nodes-less}
 
@@ -102,7 +102,7 @@ pub last-within : {S P K : Type 0} {config : Config} {w : ℕ} {stock : Stock S 
 last-within {config = config} {w = w} {stock = stock} i event known h last =
     let mine = every-last_there i event stock.past (last-there i event stock.past last) (IsWorkersEvent config w) h.own_past in
     let some : 1 ≤ config.workers = omega (arith, known) in
-    let less = place-known config.lps config.workers w (number_at config w i) some mine.known (number-own config w known i) in
-    let place = number-place config w known i in
+    let less = index-known config.lps config.workers w (number_at config w i) some mine.known (number-own config w known i) in
+    let index = number-index config w known i in
     let all = h.all_there in
-    omega (arith, less, place, all)
+    omega (arith, less, index, all)

@@ -12,8 +12,8 @@ use Rattle.vt_key.specs.declared.letter.Sign.TheVariants.{Plus, Minus}
 use Rattle.vt_key.proofs.ListLemmas.{among-insert_ordered}
 use Rattle.vt_model.specs.declared.settings.Config.{Config}
 use Rattle.vt_model.specs.promise.Handler.{Handlers}
-use Rattle.vt_steps.proofs.lists.Places.{get-within}
-use Rattle.vt_kernel.proofs.ProcessLemmas.{place-known}
+use Rattle.vt_steps.proofs.lists.Indices.{get-within}
+use Rattle.vt_kernel.proofs.ProcessLemmas.{index-known}
 use Rattle.vt_pool.specs.inside.View.{Placed, Stock, number_at}
 use Rattle.vt_pool.specs.inside.Inside.{AreSettled, IsStockInside, placed_rank}
 use Rattle.vt_pool.specs.inside.Steps.{received_in}
@@ -25,15 +25,15 @@ use Rattle.vt_pool.proofs.ShareLemmas.{cancel-leads}
 use Rattle.vt_pool.proofs.ForceLemmas.{pool-nothing}
 
 -- the number of the process that a letter is for, by its index
-pub number-of : (config : Config) (w dest place : ℕ) → place ≡ dest / config.workers → dest % config.workers ≡ w → dest ≡ number_at config w place
-number-of config w dest place at own = sym (div-add-mod' dest config.workers) ∙ (λ j. sym at j * config.workers + own j)
+pub number-of : (config : Config) (w dest index : ℕ) → index ≡ dest / config.workers → dest % config.workers ≡ w → dest ≡ number_at config w index
+number-of config w dest index at own = sym (div-add-mod' dest config.workers) ∙ (λ j. sym at j * config.workers + own j)
 
 -- that process is there
-pub place-there : {S P K : Type 0} {config : Config} {w : ℕ} {stock : Stock S P K} (dest place : ℕ) → w < config.workers → IsStockInside config w stock → place ≡ dest / config.workers → dest % config.workers ≡ w → dest < config.lps
-    → place < length stock.triples
-place-there {config = config} {w = w} dest place known h at own within =
+pub index-there : {S P K : Type 0} {config : Config} {w : ℕ} {stock : Stock S P K} (dest index : ℕ) → w < config.workers → IsStockInside config w stock → index ≡ dest / config.workers → dest % config.workers ≡ w → dest < config.lps
+    → index < length stock.triples
+index-there {config = config} {w = w} dest index known h at own within =
     let some : 1 ≤ config.workers = omega (arith, known) in
-    let less = place-known config.lps config.workers w dest some within own in
+    let less = index-known config.lps config.workers w dest some within own in
     let all = h.all_there in
     omega (arith, less, all, at)
 
@@ -43,14 +43,14 @@ module _ {P : Type 0} where
 
 -- what Cancel may have done leads on, and all stay settled
 module _ {S P K : Type 0} (handlers : Handlers S P K) (old new : HeldPool S P K) (known : old.worker < old.config.workers) (inside : IsStockInside old.config old.worker old.stock)
-    (rank : Rank) (dest place : ℕ) (there : place < length old.stock.triples) (number : dest ≡ number_at old.config old.worker place) (done : (new ≡ old) ⊎ HasCancelled rank dest old new) where
+    (rank : Rank) (dest index : ℕ) (there : index < length old.stock.triples) (number : dest ≡ number_at old.config old.worker index) (done : (new ≡ old) ⊎ HasCancelled rank dest old new) where
   pub cancel-may-lead : PoolLeadsTo handlers old new
   cancel-may-lead = elim done [
     | inl same ↦ subst (PoolLeadsTo handlers old) (sym same) (pool-nothing handlers old)
     | inr x ↦
-        let t = get-within old.stock.triples place there in
+        let t = get-within old.stock.triples index there in
         subst (PoolLeadsTo handlers old) (sym x.left)
-        (λ rest. cancel-leads handlers (with_pool rest old) known inside place t.0 rank x.message x.anti_message t.1 x.pending x.waiting (x.message_dest ∙ number) (x.anti_message_dest ∙ number))
+        (λ rest. cancel-leads handlers (with_pool rest old) known inside index t.0 rank x.message x.anti_message t.1 x.pending x.waiting (x.message_dest ∙ number) (x.anti_message_dest ∙ number))
   ]
 
   pub cancel-stays-settled : AreSettled old.stock → AreSettled new.stock

@@ -31,11 +31,11 @@ use Rattle.vt_kernel.specs.inside.Held.{HeldWorker, StandsFor, AreProcesses}
 use Rattle.vt_kernel.specs.inside.Guards.{IsDone}
 use Rattle.vt_kernel.specs.inside.Steps.{part_after}
 use Rattle.vt_kernel.proofs.OwnSteps.{at_own, own-execute}
-use Rattle.vt_kernel.proofs.LocalLemmas.{IsOwnPlace, found-at, at-found-done, no-serial, plain-done, execute-step}
+use Rattle.vt_kernel.proofs.LocalLemmas.{IsOwnIndex, found-at, at-found-done, no-serial, plain-done, execute-step}
 use Rattle.vt_kernel.proofs.DeliveryLemmas.{home-done as home-done-at, accept-done as accept-done-at}
 use Rattle.vt_pool.specs.inside.View.{Stock, past_at, letters_to, number_at, process_in, processes_in, HaveOwnStamps}
 use Rattle.vt_pool.specs.inside.Steps.{executed_in, undone_in, cancelled_in, received_in}
-use Rattle.vt_pool.proofs.ViewLemmas.{number-place, place-own, numbers-differ, get-in, are-from, IsSameAt, changed-in, changed-letters, past-more, past-more-other, past-less, past-less-other, to-first, to-first-other, to-insert, to-insert-other, to-without, to-without-other}
+use Rattle.vt_pool.proofs.ViewLemmas.{number-index, index-own, numbers-differ, get-in, are-from, IsSameAt, changed-in, changed-letters, past-more, past-more-other, past-less, past-less-other, to-first, to-first-other, to-insert, to-insert-other, to-without, to-without-other}
 use Rattle.vt_pool.proofs.StampLemmas.{found-to, apart-to, without-rank, annihilate}
 
 module _ {S P K : Type 0} (handlers : Handlers S P K) (held : HeldWorker S P K) (stock : Stock S P K) (is : held.processes ≡ processes_in held.config held.worker stock)
@@ -61,7 +61,7 @@ module _ {S P K : Type 0} (handlers : Handlers S P K) (held : HeldWorker S P K) 
       → IsDone handlers (record held { processes = processes_in held.config held.worker new; outbox = outbox; serial = serial })
       (at_own (simulation_of handlers held.config) held.worker (number_at held.config held.worker i) (at_process step (number_at held.config held.worker i / held.config.workers) part))
   at-index i {triple} {now} new outbox serial step within at changed done =
-      let own = place-own held.config held.worker known i within in
+      let own = index-own held.config held.worker known i within in
       let f = found-at handlers held are part h own (there i at) in
       subst (λ ps. IsDone handlers (record held { processes = ps; outbox = outbox; serial = serial })
       (at_own (simulation_of handlers held.config) held.worker (number_at held.config held.worker i) (at_process step (number_at held.config held.worker i / held.config.workers) part)))
@@ -102,7 +102,7 @@ module _ {S P K : Type 0} (handlers : Handlers S P K) (held : HeldWorker S P K) 
       let done : (process : LogicalProcess P) → ProcessStandsFor handlers q process → ProcessIsDone handlers (process_in config w i now new) (execute-step handlers held part p process) held.outbox outbox held.serial serial =
       λ process st.
       let one : execute_process sim p w held.serial process ≡ execute-step handlers held part p process =
-      λ j. execute_process sim (sym (number-place config w known i) j * config.workers + w) w (sym h.serial j) process in
+      λ j. execute_process sim (sym (number-index config w known i) j * config.workers + w) w (sym h.serial j) process in
       subst (λ x. ProcessIsDone handlers (process_in config w i now new) x held.outbox outbox held.serial serial) one
       (executes handlers q w held.serial process l (letters_to p rest) p l.event now undo_entry records (past_at i new.past) held.outbox outbox messages serial
       st pending ready plus refl (past-more i event stock.past) fires (kept process st) anti refl box next) in
@@ -173,9 +173,9 @@ module _ {S P K : Type 0} (handlers : Handlers S P K) (held : HeldWorker S P K) 
     pub dest : letter.event.dest ≡ number_at held.config held.worker i
     pub not_held : holds_letter (letters_to (number_at held.config held.worker i) stock.pending) (letters_to (number_at held.config held.worker i) stock.waiting) (past_at i stock.past) letter.sign letter.event.rank ≡ false
 
-  -- the letter's place, by its receiver
-  letter-place : {i : ℕ} {letter : Letter P} → IsNew i letter → IsOwnPlace held.config held.worker letter.event.dest i
-  letter-place {i} {letter} n = subst (λ p. IsOwnPlace held.config held.worker p i) (sym n.dest) (place-own held.config held.worker known i n.within)
+  -- the letter's index, by its receiver
+  letter-index : {i : ℕ} {letter : Letter P} → IsNew i letter → IsOwnIndex held.config held.worker letter.event.dest i
+  letter-index {i} {letter} n = subst (λ p. IsOwnIndex held.config held.worker p i) (sym n.dest) (index-own held.config held.worker known i n.within)
 
   module _ (pending_rises : IsRising stock.pending) (waiting_rises : IsRising stock.waiting) where
     -- the other processes are as they were
@@ -213,7 +213,7 @@ module _ {S P K : Type 0} (handlers : Handlers S P K) (held : HeldWorker S P K) 
     home-done i triple letter at found n =
         subst (λ ps. IsDone handlers (record held { processes = ps; outbox = without_first (is_for held.config.workers held.worker) held.outbox }) (part_after handlers held (Home held.worker) part))
         (received-written i triple letter at n)
-        (home-done-at handlers held are part h (process_in held.config held.worker i triple (received_in letter.sign letter stock)) found (letter-place n) (there i at) (refl, refl)
+        (home-done-at handlers held are part h (process_in held.config held.worker i triple (received_in letter.sign letter stock)) found (letter-index n) (there i at) (refl, refl)
         (accepted-at letter.sign i triple letter refl n))
 
     -- Accept of the mail at an index
@@ -223,5 +223,5 @@ module _ {S P K : Type 0} (handlers : Handlers S P K) (held : HeldWorker S P K) 
     accept-done k i triple mail at arrived n =
         subst (λ ps. IsDone handlers (record held { processes = ps; arrived = remove held.arrived k }) (part_after handlers held (Accept held.worker k) part))
         (received-written i triple mail.letter at n)
-        (accept-done-at handlers held are part h k (process_in held.config held.worker i triple (received_in mail.letter.sign mail.letter stock)) arrived (letter-place n) (there i at) (refl, refl)
+        (accept-done-at handlers held are part h k (process_in held.config held.worker i triple (received_in mail.letter.sign mail.letter stock)) arrived (letter-index n) (there i at) (refl, refl)
         (accepted-at mail.letter.sign i triple mail.letter refl n))

@@ -17,7 +17,7 @@ use Rattle.vt_pending.proofs.Filters.{filter-insert, filter-insert-other, filter
 use Rattle.vt_past.specs.declared.event.PastEvent.{PastEvent}
 use Rattle.vt_kernel.proofs.Written.{put-there}
 use Rattle.vt_kernel.specs.inside.Held.{AreProcesses}
-use Rattle.vt_kernel.proofs.LocalLemmas.{IsOwnPlace}
+use Rattle.vt_kernel.proofs.LocalLemmas.{IsOwnIndex}
 use Rattle.vt_pool.specs.inside.View.{Placed, Stock, is_at, past_at, without_last_at, is_to, letters_to, number_at, process_in, processes_from, processes_in}
 
 -- ---- numbers and indexes
@@ -28,8 +28,8 @@ differ a b apart = elim (eqb_tells a b) [ inl e ↦ absurd (apart e.1) | inr e �
 
 module _ (config : Config) (w : ℕ) (known : w < config.workers) where
   -- the index of the process of this number
-  pub number-place : (i : ℕ) → number_at config w i / config.workers ≡ i
-  number-place i =
+  pub number-index : (i : ℕ) → number_at config w i / config.workers ≡ i
+  number-index i =
       let some : 0 < config.workers = omega (arith, known) in
       let none : w / config.workers ≡ 0 = div-eq_of_lt known in
       mul-add-div_right some i w ∙ omega (arith, none)
@@ -38,12 +38,12 @@ module _ (config : Config) (w : ℕ) (known : w < config.workers) where
   pub number-own : (i : ℕ) → number_at config w i % config.workers ≡ w
   number-own i = mul-add-mod_self_right i config.workers w ∙ mod-eq_of_lt known
 
-  pub place-own : (i : ℕ) → number_at config w i < config.lps → IsOwnPlace config w (number_at config w i) i
-  place-own i within = (sym (number-place i), number-own i, within)
+  pub index-own : (i : ℕ) → number_at config w i < config.lps → IsOwnIndex config w (number_at config w i) i
+  index-own i within = (sym (number-index i), number-own i, within)
 
   -- processes at other indexes have other numbers
   pub numbers-differ : (i j : ℕ) → (j ≡ i → ⊥) → number_at config w j ≡ number_at config w i → ⊥
-  numbers-differ i j apart same = apart (sym (number-place j) ∙ ap (λ n. n / config.workers) same ∙ number-place i)
+  numbers-differ i j apart same = apart (sym (number-index j) ∙ ap (λ n. n / config.workers) same ∙ number-index i)
 
 -- ---- the processes
 
@@ -125,15 +125,15 @@ module _ {P K : Type 0} where
   past-append i es ds = ap (map (λ (d : Placed P K). d.event)) (filter-append (is_at i) es ds) ∙ map-append (λ (d : Placed P K). d.event) (filter (is_at i) es) (filter (is_at i) ds)
 
   -- one event more at the end, of this process
-  pub past-more : (i : ℕ) (event : PastEvent P K) (es : List (Placed P K)) → past_at i (es ++ record { place = i; event = event } ∷ []) ≡ past_at i es ++ event ∷ []
+  pub past-more : (i : ℕ) (event : PastEvent P K) (es : List (Placed P K)) → past_at i (es ++ record { index = i; event = event } ∷ []) ≡ past_at i es ++ event ∷ []
   past-more i event es =
-      let e : Placed P K = record { place = i; event = event } in
+      let e : Placed P K = record { index = i; event = event } in
       past-append i es (e ∷ []) ∙ ap (λ (ds : List (PastEvent P K)). past_at i es ++ ds) (past-here i e [] (eq-eqb i i refl))
 
   -- of another
-  pub past-more-other : (i j : ℕ) (event : PastEvent P K) (es : List (Placed P K)) → (j ≡ i → ⊥) → past_at j (es ++ record { place = i; event = event } ∷ []) ≡ past_at j es
+  pub past-more-other : (i j : ℕ) (event : PastEvent P K) (es : List (Placed P K)) → (j ≡ i → ⊥) → past_at j (es ++ record { index = i; event = event } ∷ []) ≡ past_at j es
   past-more-other i j event es apart =
-      let e : Placed P K = record { place = i; event = event } in
+      let e : Placed P K = record { index = i; event = event } in
       past-append j es (e ∷ []) ∙ ap (λ (ds : List (PastEvent P K)). past_at j es ++ ds) (past-elsewhere j e [] (differ i j (λ same. apart (sym same)))) ∙ append-nil (past_at j es)
 
   -- where no event is one of a process, it has none
@@ -181,7 +181,7 @@ module _ {P K : Type 0} where
 
   -- an event of one process is none of another
   at-other : (i j : ℕ) (e : Placed P K) → (j ≡ i → ⊥) → is_at i e ≡ true → is_at j e ≡ false
-  at-other i j e apart is = differ e.place j (λ same. apart (sym same ∙ eqb-true e.place i is))
+  at-other i j e apart is = differ e.index j (λ same. apart (sym same ∙ eqb-true e.index i is))
 
   past-cons : (j : ℕ) (e : Placed P K) (es ds : List (Placed P K)) → past_at j es ≡ past_at j ds → past_at j (e ∷ es) ≡ past_at j (e ∷ ds)
   past-cons j e es ds same = elim (cases_Bool (is_at j e)) [

@@ -51,8 +51,8 @@ impl<M: EventModel> Pool<M> {
         let event = letter.get().event;
         let event = &event;
         let has_room = make_room(&mut self.log, &mut self.kept, letter.get());
-        let place = self.config.index(event.dest);
-        let process = &mut self.processes[place as usize];
+        let index = self.config.index(event.dest);
+        let process = &mut self.processes[index as usize];
         let config = self.config;
         let entry = match fire(process, model, config, self.serial, event, has_room, out) {
             Ok(entry) => entry,
@@ -64,7 +64,7 @@ impl<M: EventModel> Pool<M> {
         self.kept.keep(letter);
         self.reached = later(self.reached, event.rank.key.when());
         let serial = self.serial;
-        self.serial = write(&mut self.log, place, entry, out);
+        self.serial = write(&mut self.log, index, entry, out);
         deliver(
             &mut self.kept,
             &mut self.calendar,
@@ -179,21 +179,21 @@ fn fire<M: EventModel>(
     })
 }
 
-/// Writes an executed event of the process at index `place` into the log. There must be room for it. The result is the serial after those of
+/// Writes an executed event of the process at `index` into the log. There must be room for it. The result is the serial after those of
 /// what it sent.
 #[inline(always)]
-fn write<P: Copy, K: Copy>(log: &mut Log<P, K>, place: u32, entry: Entry<P, K>, out: &Out<P>) -> u64
+fn write<P: Copy, K: Copy>(log: &mut Log<P, K>, index: u32, entry: Entry<P, K>, out: &Out<P>) -> u64
     requires room { log.old.has_room ≡ true }
-    requires known { place < log.old.processes }
+    requires known { index < log.old.processes }
     requires few_sends { length out.now.sends ≤ MAX_SENDS }
     requires few_records { length out.now.records ≤ MAX_RECORDS }
     requires counted { entry.serial + length out.now.sends ≤ MAX_COUNT }
-    ensures events { log.new.events ≡ log.old.events ++ record { process = place; entry = entry; sends = out.now.sends; records = out.now.records } ∷ [] }
+    ensures events { log.new.events ≡ log.old.events ++ record { process = index; entry = entry; sends = out.now.sends; records = out.now.records } ∷ [] }
     ensures processes { log.new.processes ≡ log.old.processes }
     ensures next { result ≡ entry.serial + length out.now.sends }
 {
     let serial = entry.serial;
-    log.push(place, entry, out.sends(), out.records());
+    log.push(index, entry, out.sends(), out.records());
     serial + out.sends().len() as u64
 }
 

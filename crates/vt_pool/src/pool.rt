@@ -73,7 +73,7 @@ impl<M: EventModel> Pool<M> {
 
     /// The index of a process.
     #[inline(always)]
-    pub(crate) fn place_of(&self, p: u32) -> u32
+    pub(crate) fn index_of(&self, p: u32) -> u32
         ensures { result ≡ p / self.now.config.workers }
     {
         self.config.index(p)

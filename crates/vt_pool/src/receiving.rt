@@ -50,10 +50,10 @@ impl<M: EventModel> Pool<M> {
         let rank = letter.get().event.rank;
         let dest = letter.get().event.dest;
         self.fits();
-        let place = self.place_of(dest);
+        let index = self.index_of(dest);
         self.put_pending(letter);
         self.fits();
-        self.undo_from(model, place, &rank);
+        self.undo_from(model, index, &rank);
         self.fits();
         self.cancel(&rank, dest);
     }
@@ -71,10 +71,10 @@ impl<M: EventModel> Pool<M> {
         let rank = letter.get().event.rank;
         let dest = letter.get().event.dest;
         self.fits();
-        let place = self.place_of(dest);
+        let index = self.index_of(dest);
         self.put_waiting(letter);
         self.fits();
-        self.undo_from(model, place, &rank);
+        self.undo_from(model, index, &rank);
         self.fits();
         self.cancel(&rank, dest);
     }

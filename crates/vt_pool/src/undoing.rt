@@ -23,18 +23,18 @@ use vt_logs::Entry;
 use vt_model::{Model as EventModel, Process, Sent};
 
 impl<M: EventModel> Pool<M> {
-    /// Undoes the last past event of the process at index `place`, where there is one. It is pending again, and the anti-messages of what it
+    /// Undoes the last past event of the process at `index`, where there is one. It is pending again, and the anti-messages of what it
     /// sent go to the back of the outbox.
-    pub(crate) fn undo_last(&mut self, model: &M, place: u32)
-        requires there { place < length self.old.stock.triples }
-        ensures undone { (event : PastEventValue _ _) (triple : Triple _) → last_or None (past_at place self.old.stock.past) ≡ Some event → slice_get self.old.stock.triples place ≡ Some triple → self.new ≡ pool_after_undo (M.handlers model.now) place event triple self.old }
-        ensures nothing { last_or None (past_at place self.old.stock.past) ≡ None → self.new ≡ self.old }
+    pub(crate) fn undo_last(&mut self, model: &M, index: u32)
+        requires there { index < length self.old.stock.triples }
+        ensures undone { (event : PastEventValue _ _) (triple : Triple _) → last_or None (past_at index self.old.stock.past) ≡ Some event → slice_get self.old.stock.triples index ≡ Some triple → self.new ≡ pool_after_undo (M.handlers model.now) index event triple self.old }
+        ensures nothing { last_or None (past_at index self.old.stock.past) ≡ None → self.new ≡ self.old }
     {
-        let Some(last) = self.log.last(place) else {
+        let Some(last) = self.log.last(index) else {
             return;
         };
         let serial = last.serial;
-        let sends = self.log.last_sends(place);
+        let sends = self.log.last_sends(index);
         self.hints.count_undo(sends.len());
         post(
             &mut self.kept,
@@ -44,10 +44,10 @@ impl<M: EventModel> Pool<M> {
             serial,
             sends,
         );
-        let Some(entry) = self.log.take_last(place) else {
+        let Some(entry) = self.log.take_last(index) else {
             unreachable!();
         };
-        undo_entry(&mut self.processes[place as usize], model, &entry);
+        undo_entry(&mut self.processes[index as usize], model, &entry);
         let node = self.kept.put(Letter {
             event: entry.event,
             sign: Sign::Plus,
@@ -55,33 +55,33 @@ impl<M: EventModel> Pool<M> {
         self.calendar.put(node);
     }
 
-    /// Whether the last past event of the process at index `place` isn't before a rank.
+    /// Whether the last past event of the process at `index` isn't before a rank.
     #[inline(always)]
-    pub(crate) fn ends_from(&self, place: u32, rank: &Rank) -> bool
-        requires there { place < length self.now.stock.triples }
-        ensures { result ≡ option_map_or (λ (e : PastEventValue _ _). not (rank_before e.letter.event.rank rank.now)) (last_or None (past_at place self.now.stock.past)) false }
+    pub(crate) fn ends_from(&self, index: u32, rank: &Rank) -> bool
+        requires there { index < length self.now.stock.triples }
+        ensures { result ≡ option_map_or (λ (e : PastEventValue _ _). not (rank_before e.letter.event.rank rank.now)) (last_or None (past_at index self.now.stock.past)) false }
     {
-        match self.log.last(place) {
+        match self.log.last(index) {
             Some(entry) => !entry.event.rank.is_before(rank),
             None => false,
         }
     }
 
-    /// Undoes the events of the process at index `place` that aren't before a letter. That is pending, or it is one of those that wait.
-    pub(crate) fn undo_from(&mut self, model: &M, place: u32, rank: &Rank)
+    /// Undoes the events of the process at `index` that aren't before a letter. That is pending, or it is one of those that wait.
+    pub(crate) fn undo_from(&mut self, model: &M, index: u32, rank: &Rank)
         ghost waits: { Items (LetterValue M.Payload) }
-        requires forced { (letter : LetterValue M.Payload) × (Among letter self.old.stock.pending ⊎ Among letter waits) × (letter_rank letter ≡ rank.now) × (letter.event.dest ≡ number_at self.old.config self.old.worker place) }
-        requires there { place < length self.old.stock.triples }
+        requires forced { (letter : LetterValue M.Payload) × (Among letter self.old.stock.pending ⊎ Among letter waits) × (letter_rank letter ≡ rank.now) × (letter.event.dest ≡ number_at self.old.config self.old.worker index) }
+        requires there { index < length self.old.stock.triples }
         ensures leads { PoolLeadsTo (M.handlers model.now) (with_waiting waits self.old) (with_waiting waits self.new) }
         ensures settled { (r : RankValue) → AreSettledBut r self.old.stock → AreSettledBut r self.new.stock }
         ensures still { (letter : LetterValue M.Payload) → Among letter self.old.stock.pending → Among letter self.new.stock.pending }
-        ensures before { (event : PastEventValue _ _) → last_or None (past_at place self.new.stock.past) ≡ Some event → RankBefore event.letter.event.rank rank.now }
+        ensures before { (event : PastEventValue _ _) → last_or None (past_at index self.new.stock.past) ≡ Some event → RankBefore event.letter.event.rank rank.now }
         ensures work { weight_of self.new ≤ weight_of self.old }
         ensures same { (self.new.worker ≡ self.old.worker) × (self.new.config ≡ self.old.config) × (self.new.heard ≡ self.old.heard) × (self.new.stock.waiting ≡ self.old.stock.waiting) }
     {
         self.fits();
-        while self.ends_from(place, rank) {
-            self.undo_last(model, place);
+        while self.ends_from(index, rank) {
+            self.undo_last(model, index);
             self.fits();
         }
     }

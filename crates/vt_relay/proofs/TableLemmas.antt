@@ -26,7 +26,7 @@ module _ (texts : List (Bor (List ℕ))) (i : ℕ) (d : Bor (List ℕ)) (h : i <
   first_bad table before fault refused =
       let count : length texts ≡ length (map now_of texts) = sym (length-map texts now_of) in
       record {
-        place = i;
+        index = i;
         table = table;
         before = subst (λ l. IsTable (length (map now_of texts)) l table) (sym (take-map now_of i texts)) (subst (λ n. IsTable n (map now_of (take i texts)) table) count before);
         refused = subst (λ l. IsRefusedLine (length (map now_of texts)) l (i + 1) fault) (sym (get_or-map now_of texts i d [] h)) (subst (λ n. IsRefusedLine n (get_or texts i d).now (i + 1) fault) count refused);

@@ -79,7 +79,7 @@ one_more told choices i d h files bytes has before =
 -- one that is refused
 pub unread_here : (told : Told) (choices : List FileChoice) (i : ℕ) (d : FileChoice) → i < length choices → (r : Refused) → IsFileRefused told (get_or choices i d) r → AreFilesRefused told choices r
 unread_here told choices i d h (Plain f) is = is
-unread_here told choices i d h (Bad option text) is = record { place = i; choice = get_or choices i d; there = slice_get-get_or choices i d h; unread = is }
+unread_here told choices i d h (Bad option text) is = record { index = i; choice = get_or choices i d; there = slice_get-get_or choices i d h; unread = is }
 
 -- a line that was written, or a beginning of it
 line_told : (old new : Option (List ℕ)) (line : List ℕ) (answer : Result ⊤ Fault) → OnOk answer (Appends old new line) → OnErr answer (AppendsBeginning old new line) → Appends old new line ⊎ AppendsBeginning old new line

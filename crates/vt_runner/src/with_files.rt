@@ -104,11 +104,11 @@ fn read_files<'a, D: Files>(
     Ok(files)
 }
 
-/// The option of this place.
-fn option_at<'a>(choices: &[FileChoice<'a>], place: usize) -> &'a str
-    ensures { result.now ≡ option_at choices.now place }
+/// The option at this index.
+fn option_at<'a>(choices: &[FileChoice<'a>], index: usize) -> &'a str
+    ensures { result.now ≡ option_at choices.now index }
 {
-    match choices.get(place) {
+    match choices.get(index) {
         Some(choice) => choice.option,
         None => "values",
     }
@@ -121,7 +121,7 @@ fn refused_by<'a>(choices: &[FileChoice<'a>], unmade: Unmade) -> Refused<'a>
     match unmade {
         Unmade::Memory => Refused::Plain(Fault::Memory),
         Unmade::Values(text) => Refused::Bad("values", text),
-        Unmade::File(place, text) => Refused::Bad(option_at(choices, place), text),
+        Unmade::File(index, text) => Refused::Bad(option_at(choices, index), text),
     }
 }
 

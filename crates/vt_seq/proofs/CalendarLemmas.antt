@@ -20,7 +20,7 @@ use Rattle.vt_seq.specs.inside.Entries.{entry_cmp, events_in, IsLeastEntry, IsFa
 use Rattle.vt_seq.specs.inside.Days.{day_of, entries_of_days, is_used, IsPut, IsDayTaken, AreDated, AreJustBefore}
 use Rattle.vt_seq.proofs.HeapLemmas.{less-key, not-before-trans, among-permuted, least-append, least-popped}
 
--- what is found in a list of which one place was set
+-- what is found in a list of which one item was set
 set-found : {X : Type 0} (xs : List X) (i j : ℕ) (y l : X) → slice_get (slice_set xs i y) j ≡ Some l → ((j ≡ i) × (l ≡ y)) ⊎ ((j ≡ i → ⊥) × (slice_get xs j ≡ Some l))
 set-found [] i j y l h = inr ((λ same. let never : None ≡ Some l = h in absurd (cc)), h)
 set-found (x ∷ xs) zero zero y l h = inl (refl, (let z : Some y ≡ Some l = h in cc))

@@ -97,9 +97,9 @@ if_err-both A B C (Err e) a b f = f e a b
 pub same-run : {M S P K : Type 0} (handlers : M → Handlers S P K) {m n : M} {c d : Config} → n ≡ m → d ≡ c → simulation_of (handlers m) c ≡ simulation_of (handlers n) d
 same-run handlers model config j = simulation_of (handlers (sym model j)) (sym config j)
 
--- where a process is after n steps
-abbrev pub place_of : {S P : Type 0} → Simulation S P → ℕ → ℕ → Triple S
-place_of sim p n = after sim p (events_of p (after_steps sim n).executed)
+-- the triple of a process after n steps
+abbrev pub triple_of : {S P : Type 0} → Simulation S P → ℕ → ℕ → Triple S
+triple_of sim p n = after sim p (events_of p (after_steps sim n).executed)
 
 module _ {M S P K : Type 0} (sim : Simulation S P) (model : M) (config : Config) where
   -- what a contract sees of these fields
@@ -142,13 +142,13 @@ module _ {M S P K : Type 0} (handlers : M → Handlers S P K) (model : M) (confi
       let all : config.lps ≤ length processes.items = omega (arith, there, processes.ok.0) in
       subst (λ (v : Standing M S P). IsOnWay (handlers v.model) v) is (∥∥₁_map stands (λ x. (x.0, stands-after (simulation_of (handlers model) config) model config x.0 pending processes.items all x.1)))
 
-  -- what is told of a process's place in the run, by fields that stand for it
+  -- what is told of a process's triple in the run, by fields that stand for it
   pub seen-told : (field : Triple S → ℕ) (p : ℕ) (r : Option ℕ) (processes : List (Process M S P K)) → ∥ ((n : ℕ) × StandsAt (simulation_of (handlers model) config) n pending processes) ∥₁
-      → ((n : ℕ) → StandsAt (simulation_of (handlers model) config) n pending processes → IfSome r (λ x. (p < config.lps) × (x ≡ field (place_of (simulation_of (handlers model) config) p n))))
+      → ((n : ℕ) → StandsAt (simulation_of (handlers model) config) n pending processes → IfSome r (λ x. (p < config.lps) × (x ≡ field (triple_of (simulation_of (handlers model) config) p n))))
       → (v : Standing M S P) → seen (simulation_of (handlers model) config) model config pending processes ≡ v
-      → (n : ℕ) → IsAt (simulation_of (handlers v.model) v.config) n v → IfSome r (λ x. (p < v.config.lps) × (x ≡ field (place_of (simulation_of (handlers v.model) v.config) p n)))
+      → (n : ℕ) → IsAt (simulation_of (handlers v.model) v.config) n v → IfSome r (λ x. (p < v.config.lps) × (x ≡ field (triple_of (simulation_of (handlers v.model) v.config) p n)))
   seen-told field p r processes stands told v is =
-      subst (λ (v : Standing M S P). (n : ℕ) → IsAt (simulation_of (handlers v.model) v.config) n v → IfSome r (λ x. (p < v.config.lps) × (x ≡ field (place_of (simulation_of (handlers v.model) v.config) p n))))
+      subst (λ (v : Standing M S P). (n : ℕ) → IsAt (simulation_of (handlers v.model) v.config) n v → IfSome r (λ x. (p < v.config.lps) × (x ≡ field (triple_of (simulation_of (handlers v.model) v.config) p n))))
       is (λ n at. told n (after-stands (simulation_of (handlers model) config) model config n pending processes stands at))
 
 -- ---- records of several steps
@@ -184,13 +184,13 @@ module _ {M S P : Type 0} (sim : Simulation S P) (n : ℕ) where
   pub kept_on : (now : Standing M S P) (old new : List Record) → old ≡ records_to sim n → IsAt sim (suc n) now → AddsStep sim n old new → IsAfter sim (suc n) (with_records now new)
   kept_on now old new all is adds = record { at = is; records = adds.added ∙ ap (λ (l : List Record). l ++ adds.fresh) all ∙ sym adds.next }
 
--- what is told of a process's place in the run
+-- what is told of a process's triple in the run
 pub kept-told : {M S P K : Type 0} (handlers : M → Handlers S P K) (now : Standing M S P) (records : List Record) (field : Triple S → ℕ) (p : ℕ) (r : Option ℕ)
-    → ((n : ℕ) → IsAt (simulation_of (handlers now.model) now.config) n now → IfSome r (λ x. (p < now.config.lps) × (x ≡ field (place_of (simulation_of (handlers now.model) now.config) p n))))
+    → ((n : ℕ) → IsAt (simulation_of (handlers now.model) now.config) n now → IfSome r (λ x. (p < now.config.lps) × (x ≡ field (triple_of (simulation_of (handlers now.model) now.config) p n))))
     → (v : Progress M S P) → with_records now records ≡ v
-    → (n : ℕ) → IsAfter (simulation_of (handlers v.model) v.config) n v → IfSome r (λ x. (p < v.config.lps) × (x ≡ field (place_of (simulation_of (handlers v.model) v.config) p n)))
+    → (n : ℕ) → IsAfter (simulation_of (handlers v.model) v.config) n v → IfSome r (λ x. (p < v.config.lps) × (x ≡ field (triple_of (simulation_of (handlers v.model) v.config) p n)))
 kept-told handlers now records field p r told v is =
-    subst (λ (v : Progress _ _ _). (n : ℕ) → IsAfter (simulation_of (handlers v.model) v.config) n v → IfSome r (λ x. (p < v.config.lps) × (x ≡ field (place_of (simulation_of (handlers v.model) v.config) p n))))
+    subst (λ (v : Progress _ _ _). (n : ℕ) → IsAfter (simulation_of (handlers v.model) v.config) n v → IfSome r (λ x. (p < v.config.lps) × (x ≡ field (triple_of (simulation_of (handlers v.model) v.config) p n))))
     is (λ n is. told n is.at)
 
 -- where all send numbers are counted after any number of steps, they are

@@ -7,14 +7,14 @@ use Rattle.vt_key.specs.declared.letter.Letter.{Letter}
 use Rattle.vt_key.specs.declared.letter.Mail.{Mail}
 use Rattle.vt_key.specs.declared.letter.Sign.TheVariants.{Plus}
 use Rattle.vt_model.specs.promise.Handler.{Handlers}
-use Rattle.vt_steps.proofs.lists.Places.{get-within}
+use Rattle.vt_steps.proofs.lists.Indices.{get-within}
 use Rattle.vt_kernel.specs.inside.Held.{HeldWorker, AllOwnMail, IsOwnMail}
 use Rattle.vt_pool.specs.inside.Inside.{IsHeard, IsStockInside, IsWorkersLetter}
 use Rattle.vt_pool.specs.inside.Pool.{MayCome, holds_stamp, with_letter}
 use Rattle.vt_pool.specs.inside.Share.{HeldPool, HeldShare, PoolLeadsTo, seen, with_pool}
 use Rattle.vt_pool.specs.inside.Steps.{LeadsTo}
 use Rattle.vt_pool.proofs.LeadLemmas.{leads-nothing, leads-both}
-use Rattle.vt_pool.proofs.ReceiveLemmas.{number-of, place-there}
+use Rattle.vt_pool.proofs.ReceiveLemmas.{number-of, index-there}
 use Rattle.vt_pool.proofs.ShareLemmas.{accept-leads}
 use Rattle.vt_share.specs.inside.Calls.{AcceptsFirst, IsHeldMail}
 use Rattle.vt_share.proofs.LetterLemmas.{held-somewhere}
@@ -44,11 +44,11 @@ module _ {S P K : Type 0} (handlers : Handlers S P K) (mails : List (Mail P)) (o
       let before = drop-at mails i mail at in
       let here : HeldShare S P K = with_pool (record rest { arrived = drop i mails }) pool in
       let behind : HeldShare S P K = record rest { arrived = drop (suc i) mails } in
-      let place = letter.event.dest / pool.config.workers in
-      let there = place-there letter.event.dest place known inside refl may.mine.own may.mine.within.known in
-      let t = get-within pool.stock.triples place there in
-      let number = number-of pool.config pool.worker letter.event.dest place refl may.mine.own in
-      let step = accept-leads handlers here known inside 0 place t.0 mail t.1 (ap (λ ms. slice_get ms 0) before) number may.mine.within.known may.new in
+      let index = letter.event.dest / pool.config.workers in
+      let there = index-there letter.event.dest index known inside refl may.mine.own may.mine.within.known in
+      let t = get-within pool.stock.triples index there in
+      let number = number-of pool.config pool.worker letter.event.dest index refl may.mine.own in
+      let step = accept-leads handlers here known inside 0 index t.0 mail t.1 (ap (λ ms. slice_get ms 0) before) number may.mine.within.known may.new in
       let moved : LeadsTo handlers (seen here) (seen (with_pool behind (with_letter letter pool))) =
       subst (λ ms. LeadsTo handlers (seen here) (seen (with_pool (record rest { arrived = ms }) (with_letter letter pool)))) (ap (λ ms. remove ms 0) before) step in
       leads-both handlers (seen (with_pool (record rest { arrived = mails }) old)) (seen here) (seen (with_pool behind new)) (so_far rest)

@@ -19,7 +19,7 @@ use Rattle.vt_model.specs.declared.settings.Config.{Config}
 use Rattle.vt_model.specs.promise.Simulation.{Triple}
 use Rattle.vt_steps.specs.promise.Letters.{letter_time, least_time}
 use Rattle.vt_steps.proofs.TimeLemmas.{least_time-append, least_time-low, at_most_both, same_times}
-use Rattle.vt_steps.proofs.lists.Places.{get-within}
+use Rattle.vt_steps.proofs.lists.Indices.{get-within}
 use Rattle.vt_past.specs.declared.event.PastEvent.{PastEvent}
 use Rattle.vt_lp.specs.inside.Held.{HeldProcess}
 use Rattle.vt_kernel.specs.inside.Held.{HeldWorker}
@@ -27,8 +27,8 @@ use Rattle.vt_pool.specs.inside.View.{Placed, Stock, number_at, is_at, is_to, le
 use Rattle.vt_pool.specs.inside.Inside.{IsWorkersEvent, IsWorkersLetter, IsStockInside, placed_rank}
 use Rattle.vt_pool.specs.inside.Pool.{holds_stamp}
 use Rattle.vt_pool.proofs.GuardLemmas.{any-among}
-use Rattle.vt_pool.proofs.ViewLemmas.{get-in, number-own, number-place, to-own}
-use Rattle.vt_pool.proofs.ReceiveLemmas.{number-of, place-there}
+use Rattle.vt_pool.proofs.ViewLemmas.{get-in, number-own, number-index, to-own}
+use Rattle.vt_pool.proofs.ReceiveLemmas.{number-of, index-there}
 use Rattle.vt_share.specs.inside.Calls.{has_stamped, IsLeastPending}
 
 -- ---- the least time of letters
@@ -113,7 +113,7 @@ module _ {S P K : Type 0} where
     pub at-process : (sign : Sign) (letter : Letter P) → IsWorkersLetter config w sign letter → IsAtProcess letter
     at-process sign letter mine =
         let i = letter.event.dest / config.workers in
-        let within = place-there letter.event.dest i known inside refl mine.own mine.within.known in
+        let within = index-there letter.event.dest i known inside refl mine.own mine.within.known in
         let at = get-within stock.triples i within in
         record {
           i = i;
@@ -207,9 +207,9 @@ module _ {S P K : Type 0} where
     past-somewhere stamp held =
         let found = any-true (λ (e : Placed P K). stamp_same (placed_rank e).stamp stamp) stock.past held in
         let e = found.0 in
-        let i = e.place in
+        let i = e.index in
         let mine = every-among (IsWorkersEvent config w) stock.past e inside.own_past found.1 in
-        let within = place-there (number_at config w i) i known inside (sym (number-place config w known i)) (number-own config w known i) mine.known in
+        let within = index-there (number_at config w i) i known inside (sym (number-index config w known i)) (number-own config w known i) mine.known in
         let at = get-within stock.triples i within in
         let there = get-among (processes_in config w stock) i (process_in config w i at.0 stock) (get-in config w i at.0 stock at.1) in
         let here : Among e.event (past_at i stock.past) = among-map (λ (d : Placed P K). d.event) e (filter (is_at i) stock.past) (among-filter (is_at i) e stock.past found.1 (eq-eqb i i refl)) in

@@ -4,7 +4,7 @@ ghost use Rattle.std.specs.Prelude.{◌≡◌, ◌==◌, ◌<◌, [], ◌∷◌,
 ghost use Rattle.std.specs.List.{slice_split};
 
 /// The index of the first byte that is `byte`; None if there is none.
-fn place_of(byte: u8, text: &[u8]) -> Option<usize>
+fn index_of(byte: u8, text: &[u8]) -> Option<usize>
     ensures { result ≡ position (λ b. b == byte) text.now }
 {
     text.iter().position(|b| *b == byte)
@@ -16,6 +16,6 @@ pub(crate) fn cut_once(text: &[u8], separator: u8) -> Option<(&[u8], &[u8])>
         (λ cut. slice_split (λ b. b == separator) text.now ≡ cut.0.now ∷ slice_split (λ b. b == separator) cut.1.now) }
     ensures shorter { IfSome result (λ cut. length cut.1.now < length text.now) }
 {
-    let at = place_of(separator, text)?;
+    let at = index_of(separator, text)?;
     Some((&text[..at], &text[at + 1..]))
 }

@@ -67,8 +67,8 @@ fn step_with_two(name: &[u8], a: &[u8], b: &[u8], workers: u32) -> Option<Step>
         Some(Step::Send(from, to))
     } else if name == b"accept".as_slice() {
         let worker = number_below(a, workers)?;
-        let place = read_number(b)?;
-        Some(Step::Accept(worker, place))
+        let index = read_number(b)?;
+        Some(Step::Accept(worker, index))
     } else {
         None
     }

@@ -11,7 +11,7 @@ use Rattle.vt_text.specs.promise.Writing.{AppendsBeginning}
 use Rattle.vt_text.specs.inside.Writing.{AppendsAllButHeld}
 use Rattle.vt_text.proofs.TextLemmas.{flush_fails, made_room, of_longer}
 
--- the records from a place on are a share and those that come after it
+-- the records from an index on are a share and those that come after it
 pub parted : (size at n : ℕ) (records rest share more : List Record) → n ≡ min size (length rest) → rest ≡ drop at records → share ≡ take n rest → more ≡ drop n rest
     → (share ≡ take size (drop at records)) × (rest ≡ share ++ more) × (more ≡ drop (at + size) records)
 parted size at n records rest share more least is front back = (

@@ -29,8 +29,8 @@ use Rattle.vt_world.specs.inside.Held.{HeldWorld, held_world, world_memory, Stan
 use Rattle.vt_world.proofs.WorldLemmas.{found, part-changed}
 use Rattle.vt_world.proofs.WorldSteps.{who, goes}
 use Rattle.vt_world.proofs.StepLemmas.{step-done, step-refused, inside-stepped, inside-same}
-use Rattle.vt_world.proofs.Places.{are-workers, inboxes-changed, put-back, mail-back}
-use Rattle.vt_steps.proofs.lists.Places.{get-within}
+use Rattle.vt_world.proofs.Indices.{are-workers, inboxes-changed, put-back, mail-back}
+use Rattle.vt_steps.proofs.lists.Indices.{get-within}
 
 module _ {M S P K : Type 0} (handlers : Handlers S P K) (held : HeldWorld M S P K) (w : ℕ) (k new : HeldWorker S P K) where
   -- the world with a new worker w, and with what the cells hold then
@@ -124,7 +124,7 @@ module _ {M S P K : Type 0} (meaning : M → Handlers S P K) {held : HeldWorld M
       (are-workers inside w at new (s.done.worker, s.done.config_is)) p.all_inboxes p.own_inboxes same_board same_book (done-there reply s)
   inside-there same_board same_book (Err fault) s = inside-same inside (p.back s.unchanged.0 s.unchanged.1) same_board same_book
 
-  -- what a kernel does by its own number and config, the worker at this place does
+  -- what a kernel does by its own number and config, the worker at this index does
   module _ {result : Result Reply Fault} (s : IsCellStepOf (meaning held.model) k.config (step_of k.worker) k new cell left result) where
     own-step : IsCellStepOf (meaning held.model) held.config (step_of w) k new cell left result
     own-step =

@@ -29,10 +29,10 @@ of-some f None y h = absurd (let k : Some y ≡ None = h in cc)
 of-some f (Some x) y h = (x, refl, (let k : Some y ≡ Some (f x) = h in cc))
 
 module _ {S P K : Type 0} where
-  -- a worker's own process is at its place
-  at-place : (config : Config) (k : HeldWorker S P K) (p : ℕ) (q : HeldProcess S P K) → k.config ≡ config → p % config.workers ≡ k.worker → process_of k p ≡ Some q
+  -- a worker's own process is at its index
+  at-index : (config : Config) (k : HeldWorker S P K) (p : ℕ) (q : HeldProcess S P K) → k.config ≡ config → p % config.workers ≡ k.worker → process_of k p ≡ Some q
       → slice_get k.processes (p / config.workers) ≡ Some q
-  at-place config k p q same own at =
+  at-index config k p q same own at =
       let here : (if nat_eq (p % config.workers) k.worker then slice_get k.processes (p / config.workers) else None) ≡ Some q =
       subst (λ (c : Config). (if nat_eq (p % c.workers) k.worker then slice_get k.processes (p / c.workers) else None) ≡ Some q) same at in
       sym (ap (λ (b : Bool). if b then slice_get k.processes (p / config.workers) else None) (eq-eqb (p % config.workers) k.worker own)) ∙ here
@@ -46,14 +46,14 @@ module _ {M S P K : Type 0} {handlers : Handlers S P K} {held : HeldWorld M S P 
       let sim = simulation_of handlers held.config in
       let world = reached sim x.0 x.1.0 in
       let w = p % held.config.workers in
-      let place = p / held.config.workers in
+      let index = p / held.config.workers in
       let who = worker-at held.config 0 w held.workers k inside.own_workers at in
       let plain : 0 + w ≡ w = omega arith in
       let own : w ≡ k.worker = sym (who.0 ∙ plain) in
       let part = stands-at sim 0 w (map (part_memory handlers) held.workers) world.parts (part_memory handlers k) x.1.1.parts (get-map_of (part_memory handlers) held.workers w k at) in
-      let there = at-place held.config k p q who.1 own found in
-      let process = process-stands-at sim (0 + w) 0 place (map (process_memory handlers) k.processes) part.0.processes (process_memory handlers q) part.2.processes (get-map_of (process_memory handlers) k.processes place q there) in
-      let number : process_at sim (0 + w) (0 + place) ≡ p = (let a : 0 + place ≡ place = omega arith in ap (λ n. n * held.config.workers + (0 + w)) a ∙ ap (λ n. place * held.config.workers + n) plain ∙ div-add-mod' p held.config.workers) in
+      let there = at-index held.config k p q who.1 own found in
+      let process = process-stands-at sim (0 + w) 0 index (map (process_memory handlers) k.processes) part.0.processes (process_memory handlers q) part.2.processes (get-map_of (process_memory handlers) k.processes index q there) in
+      let number : process_at sim (0 + w) (0 + index) ≡ p = (let a : 0 + index ≡ index = omega arith in ap (λ n. n * held.config.workers + (0 + w)) a ∙ ap (λ n. index * held.config.workers + n) plain ∙ div-add-mod' p held.config.workers) in
       let stands : StandsForProcess sim p (process_memory handlers q) process.0 = subst (λ n. StandsForProcess sim n (process_memory handlers q) process.0) number process.2 in
       sym (is_where sim p (process_memory handlers q) process.0 stands)
       ∙ closed-finals sim lawful x.0 x.1.0 (ap (λ (b : Book). b.is_closed) x.1.1.book ∙ shut) p process.0 less (part.0, part.1, process.1)

@@ -15,15 +15,15 @@ use Rattle.vt_world.specs.inside.Held.{HeldWorld, StandsForWorld, least_held}
 
 module _ {S P K : Type 0} (handlers : Handlers S P K) (sim : Simulation S P) where
   -- the letters at processes are those at the processes that they stand for
-  process-letters : (w place : ℕ) (held : List (HeldProcess S P K)) (processes : List (LogicalProcess P)) → StandForProcesses sim w place (map (process_memory handlers) held) processes
+  process-letters : (w index : ℕ) (held : List (HeldProcess S P K)) (processes : List (LogicalProcess P)) → StandForProcesses sim w index (map (process_memory handlers) held) processes
       → flat_map (λ (process : LogicalProcess P). process.pending ++ process.waiting) processes ≡ flat_map (λ (process : HeldProcess S P K). process.pending ++ process.waiting) held
-  process-letters w place [] [] h = refl
-  process-letters w place [] (q ∷ qs) h = absurd h
-  process-letters w place (x ∷ xs) [] h = absurd h
-  process-letters w place (x ∷ xs) (q ∷ qs) h =
+  process-letters w index [] [] h = refl
+  process-letters w index [] (q ∷ qs) h = absurd h
+  process-letters w index (x ∷ xs) [] h = absurd h
+  process-letters w index (x ∷ xs) (q ∷ qs) h =
       ap (λ ls. (ls ++ q.waiting) ++ flat_map (λ (process : LogicalProcess P). process.pending ++ process.waiting) qs) h.0.pending
       ∙ ap (λ ls. (x.pending ++ ls) ++ flat_map (λ (process : LogicalProcess P). process.pending ++ process.waiting) qs) h.0.waiting
-      ∙ ap (λ ls. (x.pending ++ x.waiting) ++ ls) (process-letters w (place + 1) xs qs h.1)
+      ∙ ap (λ ls. (x.pending ++ x.waiting) ++ ls) (process-letters w (index + 1) xs qs h.1)
 
   -- the letters of workers are those of the parts that they stand for
   part-letters : (w : ℕ) (held : List (HeldWorker S P K)) (parts : List (Part P)) → StandForParts sim w (map (part_memory handlers) held) parts

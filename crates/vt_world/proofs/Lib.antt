@@ -3,7 +3,7 @@ pub mod WorldSteps
 pub mod HeldLemmas
 pub mod FinalLemmas
 pub mod StepLemmas
-pub mod Places
+pub mod Indices
 pub mod CellLemmas
 pub mod LocalLemmas
 pub mod LimitLemmas

@@ -10,11 +10,11 @@ use Rattle.vt_steps.specs.promise.World.{Part, World}
 use Rattle.vt_kernel.specs.inside.Held.{HeldWorker, StandsFor as WorkerStandsFor}
 use Rattle.vt_kernel.specs.promise.Refusals.{PassesIn, PassesLimit}
 use Rattle.vt_kernel.proofs.LimitLemmas.{passes-part}
-use Rattle.vt_steps.proofs.lists.Places.{get-put_same}
+use Rattle.vt_steps.proofs.lists.Indices.{get-put_same}
 use Rattle.vt_world.specs.inside.Held.{HeldWorld, StandsForWorld, IsWorldInside}
 use Rattle.vt_world.proofs.WorldLemmas.{IsSame, found}
 use Rattle.vt_world.proofs.WorldSteps.{who}
-use Rattle.vt_world.proofs.Places.{are-workers}
+use Rattle.vt_world.proofs.Indices.{are-workers}
 
 module _ {M S P K : Type 0} {handlers : Handlers S P K} {held : HeldWorld M S P K} {board_end book_end : Time} (inside : IsWorldInside handlers held board_end book_end)
     (w : ℕ) {k : HeldWorker S P K} (at : slice_get held.workers w ≡ Some k) (new : HeldWorker S P K) (same : IsSame new k) where

@@ -20,12 +20,12 @@ use Rattle.vt_kernel.specs.inside.Held.{HeldWorker, StandsFor as WorkerStandsFor
 use Rattle.vt_kernel.specs.inside.Guards.{IsDone, IsExecuteRefusal, IsAcceptRefusal}
 use Rattle.vt_kernel.specs.promise.Refusals.{IsStepRefusal, PassesIn, PassesLimit}
 use Rattle.vt_kernel.proofs.LimitLemmas.{passes-none, passes-world, passes-part}
-use Rattle.vt_steps.proofs.lists.Places.{get-put_same}
+use Rattle.vt_steps.proofs.lists.Indices.{get-put_same}
 use Rattle.vt_world.specs.inside.Held.{HeldWorld, world_memory, StandsForWorld, IsReached, IsHeldStepOf, IsWorldInside}
 use Rattle.vt_world.proofs.WorldLemmas.{IsSame, IsLocalAt, IsFound, found, next-locally, local-done, local-refused}
 use Rattle.vt_world.proofs.WorldSteps.{who}
 use Rattle.vt_world.proofs.StepLemmas.{step-done, step-unlawful, inside-same}
-use Rattle.vt_world.proofs.Places.{inside-worker, put-back}
+use Rattle.vt_world.proofs.Indices.{inside-worker, put-back}
 
 module _ {M S P K : Type 0} {handlers : Handlers S P K} {held : HeldWorld M S P K} {board_end book_end : Time} (inside : IsWorldInside handlers held board_end book_end) where
   -- what a local step of a worker comes to in a world
@@ -114,10 +114,10 @@ module _ {M S P K : Type 0} {handlers : Handlers S P K} {held : HeldWorld M S P 
       let f = found handlers held (reached (simulation_of handlers held.config) x.0 x.1.0) w k inside.own_workers x.1.1 at in
       (f.part, f.stands))
 
-  -- what a worker says of a step of its own number, said of its place
-  pub at-place : (step : ℕ → Step) (Said : Option (Part P) → Type 0) → ((part : Part P) → WorkerStandsFor handlers k part → Said (local_step (simulation_of handlers k.config) k.worker (step k.worker) part))
+  -- what a worker says of a step of its own number, said of its index
+  pub at-index : (step : ℕ → Step) (Said : Option (Part P) → Type 0) → ((part : Part P) → WorkerStandsFor handlers k part → Said (local_step (simulation_of handlers k.config) k.worker (step k.worker) part))
       → (part : Part P) → WorkerStandsFor handlers k part → Said (local_step (simulation_of handlers k.config) k.worker (step w) part)
-  at-place step Said said part stands = subst (λ v. Said (local_step (simulation_of handlers k.config) k.worker (step v) part)) (who inside at).0 (said part stands)
+  at-index step Said said part stands = subst (λ v. Said (local_step (simulation_of handlers k.config) k.worker (step v) part)) (who inside at).0 (said part stands)
 
 -- what a call owes that does a local step at a worker
 module _ {M S P K : Type 0} (meaning : M → Handlers S P K) {held seen : HeldWorld M S P K} (seen_is : held ≡ seen) {board_end book_end : Time} (inside : IsWorldInside (meaning held.model) held board_end book_end)

@@ -25,7 +25,7 @@ use Rattle.vt_world.specs.inside.Held.{HeldWorld, StandsForWorld, IsWorldInside}
 use Rattle.vt_world.specs.promise.Answers.{IsPastIn, EndsSequential}
 use Rattle.vt_world.proofs.WorldLemmas.{found}
 use Rattle.vt_world.proofs.WorldSteps.{who}
-use Rattle.vt_world.proofs.Places.{is-own}
+use Rattle.vt_world.proofs.Indices.{is-own}
 
 -- what is made of an item that a test lets through
 passed : {X Y : Type 0} (test : Bool) (item : Option X) (make : X → Y) (y : Y) → option_map make (if test then item else None) ≡ Some y → (x : X) × (item ≡ Some x) × (make x ≡ y)

@@ -21,7 +21,7 @@ use Rattle.vt_kernel.proofs.ProcessLemmas.{map-put, get-map_of}
 use Rattle.vt_world.specs.inside.Held.{HeldWorld, world_memory, StandsForWorld, AreWorkers, IsWorldInside}
 
 module _ {S P : Type 0} (sim : Simulation S P) where
-  -- a value at a place stands for the part of that worker
+  -- a value at an index stands for the part of that worker
   pub stands-at : (base w : ℕ) (memories : List (PartMemory S P)) (parts : List (Part P)) (memory : PartMemory S P)
       → StandForParts sim base memories parts → slice_get memories w ≡ Some memory
       → (part : Part P) × (slice_get parts w ≡ Some part) × StandsForPart sim (base + w) memory part
@@ -88,7 +88,7 @@ module _ {S P : Type 0} (sim : Simulation S P) where
   unfolding next
   next-locally world w step part is there = done-locally world w (action_of sim step) part is there
 
--- ---- which worker is at a place
+-- ---- which worker is at an index
 
 module _ {S P K : Type 0} where
   pub worker-at : (config : Config) (base w : ℕ) (held : List (HeldWorker S P K)) (k : HeldWorker S P K)
@@ -114,7 +114,7 @@ module _ {S P K : Type 0} where
       (h.0, h.1, workers-changed config (base + 1) w xs k h.2 (is ∙ here) of)
 
 module _ {M S P K : Type 0} (handlers : Handlers S P K) where
-  -- the worker at a place, in memory and in the world
+  -- the worker at an index, in memory and in the world
   pub record IsFound (held : HeldWorld M S P K) (world : World P) (w : ℕ) (k : HeldWorker S P K) : Type 0 where
     pub part : Part P
     pub there : slice_get world.parts w ≡ Some part

@@ -29,7 +29,7 @@ module _ {M S P K : Type 0} (handlers : Handlers S P K) (held : HeldWorld M S P 
       (ap (λ (o : Outcome P). o.answer) is ∙ answers, subst (λ (o : Outcome P). StandsForWorld handlers new o.world) (sym is) stands)
 
 module _ {M S P K : Type 0} {handlers : Handlers S P K} {held : HeldWorld M S P K} {board_end book_end : Time} (inside : IsWorldInside handlers held board_end book_end) where
-  -- the worker at its place is it
+  -- the worker at its index is it
   pub who : {w : ℕ} {k : HeldWorker S P K} → slice_get held.workers w ≡ Some k → (k.worker ≡ w) × (k.config ≡ held.config)
   who {w} {k} at =
       let is = worker-at held.config 0 w held.workers k inside.own_workers at in

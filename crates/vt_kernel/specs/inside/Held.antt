@@ -77,9 +77,9 @@ module _ {P : Type 0} where
 module _ {S P K : Type 0} where
   -- the processes of worker w from this index on
   abbrev pub AreProcesses : Config → ℕ → ℕ → List (HeldProcess S P K) → Type 0
-  AreProcesses config w place [] = Unit {0}
-  AreProcesses config w place (held ∷ rest) =
-      (held.lp ≡ place * config.workers + w) × (held.config ≡ config) × AreProcesses config w (place + 1) rest
+  AreProcesses config w index [] = Unit {0}
+  AreProcesses config w index (held ∷ rest) =
+      (held.lp ≡ index * config.workers + w) × (held.config ≡ config) × AreProcesses config w (index + 1) rest
 
 -- both counts are within their limit
 pub record AreCounted (counts : Counts) : Type 0 where

@@ -9,7 +9,7 @@ is_one word bit = nat_eq (bit_at word bit) 1
 
 -- the bit of an index is set; past the last word no bit is
 abbrev pub is_set : List ℕ → ℕ → Bool
-is_set words place = is_one (slice_index_or words (place / 64) 0) (place % 64)
+is_set words index = is_one (slice_index_or words (index / 64) 0) (index % 64)
 
 -- the marks of so many indices
 abbrev pub marks_of : ℕ → List ℕ → List Bool
@@ -26,4 +26,4 @@ pub record AreKept (count : ℕ) (words sums : List ℕ) : Type 0 where
   pub placed : count ≤ 64 * length words
   pub summed : length words ≤ 64 * length sums
   pub told : AreSums words sums
-  pub none_beyond : (place : ℕ) → count ≤ place → is_set words place ≡ false
+  pub none_beyond : (index : ℕ) → count ≤ index → is_set words index ≡ false

@@ -8,6 +8,6 @@ use Rattle.vt_options.specs.promise.Programs.{assignment_said}
 
 -- this word is among the texts, and sets nothing
 pub record SetsNothing (texts : List Text) (word : Text) : Type 0 where
-  pub place : ℕ
-  pub given : slice_get texts place ≡ Some word
+  pub index : ℕ
+  pub given : slice_get texts index ≡ Some word
   pub none : assignment_said word ≡ None

@@ -16,7 +16,7 @@ chosen (w ∷ ws) point = if nat_lt point w then 0 else suc (chosen ws (point - 
 abbrev pub weight_drawn : List ℕ → ℕ → ℕ
 weight_drawn ws word = chosen ws (scaled word (sum ws))
 
--- the place of the first of so many words, from a place on, by which it happens; the place behind them where there is none
+-- the index of the first of so many words, from an index on, by which it happens; the index behind them where there is none
 abbrev pub first_hit : (ℕ → ℕ) → ℕ → ℕ → ℕ → ℕ → ℕ
 first_hit words p q at zero = at
 first_hit words p q at (suc left) = if happens (words at) p q then at else first_hit words p q (suc at) left

@@ -11,7 +11,7 @@ IsCount n = n < 2 ^ 64
 module _ {N : ℕ} where
   -- a histogram has its bins, and its counts are 64-bit numbers
   pub record IsHistogram (h : Histogram N) : Type 0 where
-    pub places : length h.bins ≡ N
+    pub long : length h.bins ≡ N
     pub bins : All IsCount h.bins
     pub beyond : h.beyond < 2 ^ 64
 

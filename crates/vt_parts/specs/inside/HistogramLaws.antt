@@ -11,7 +11,7 @@ use Rattle.vt_parts.specs.inside.Histogram.{IsHistogram, IsCount, empty_histogra
 module _ {N : ℕ} where
   -- an empty histogram is a histogram
   pub empty_histogram_is : (width : ℕ) → IsHistogram {N = N} (empty_histogram width)
-  empty_histogram_is width = record { places = length-replicate N 0; bins = All-replicate IsCount N 0 (omega arith); beyond = omega arith }
+  empty_histogram_is width = record { long = length-replicate N 0; bins = All-replicate IsCount N 0 (omega arith); beyond = omega arith }
 
   -- a count leaves a histogram
   pub counted_is : (h : Histogram N) (value : ℕ) → IsHistogram h → IsHistogram (counted h value)
@@ -19,20 +19,20 @@ module _ {N : ℕ} where
       let bin = bin_of h value in
       elim (nat_lt bin N) as (λ b. IsHistogram (if b then with_bin h bin one_more else with_beyond h one_more)) [
         | true ↦ record {
-          places = length-set h.bins bin (one_more (slice_index h.bins bin)) ∙ is.places;
+          long = length-set h.bins bin (one_more (slice_index h.bins bin)) ∙ is.long;
           bins = All-set IsCount h.bins bin (one_more (slice_index h.bins bin)) (omega arith) is.bins;
           beyond = is.beyond;
         }
-        | false ↦ record { places = is.places; bins = is.bins; beyond = omega arith }
+        | false ↦ record { long = is.long; bins = is.bins; beyond = omega arith }
       ]
 
   -- one bin counted and uncounted
   bin_undone : (h : Histogram N) (bin : ℕ) → IsHistogram h → bin < N → with_bin (with_bin h bin one_more) bin one_fewer ≡ h
   bin_undone h bin is within =
-      let in_place : bin < length h.bins = omega (arith, is.places, within) in
+      let in_range : bin < length h.bins = omega (arith, is.long, within) in
       let before = slice_index h.bins bin in
       let count : one_fewer (slice_index (slice_set h.bins bin (one_more before)) bin) ≡ before =
-      ap one_fewer (get_or-set_same h.bins bin (one_more before) 0 in_place) ∙ fewer-more before (All-get_or IsCount h.bins bin 0 in_place is.bins) in
+      ap one_fewer (get_or-set_same h.bins bin (one_more before) 0 in_range) ∙ fewer-more before (All-get_or IsCount h.bins bin 0 in_range is.bins) in
       let bins : slice_set (slice_set h.bins bin (one_more before)) bin (one_fewer (slice_index (slice_set h.bins bin (one_more before)) bin)) ≡ h.bins =
       set-set h.bins bin (one_more before) (one_fewer (slice_index (slice_set h.bins bin (one_more before)) bin)) ∙ ap (slice_set h.bins bin) count ∙ set-get_or h.bins bin 0 in
       λ j. record h { bins = bins j }

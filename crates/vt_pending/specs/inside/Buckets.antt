@@ -55,8 +55,8 @@ module _ {P : Type 0} where
   least_from test found (list ∷ lists) = if both_before found (slice_get list 0) then found else least_from test (lesser found (find test list)) lists
 
   -- the letter belongs in the list of this rank, or isn't before this rank
-  abbrev pub is_place : Rank → Letter P → Bool
-  is_place rank letter = in_bucket (bucket_of rank) letter || not (rank_before letter.event.rank rank)
+  abbrev pub belongs : Rank → Letter P → Bool
+  belongs rank letter = in_bucket (bucket_of rank) letter || not (rank_before letter.event.rank rank)
 
   -- the first list is list b, and its first letter that isn't before the rank has it
   abbrev pub first_holds : ℕ → Rank → List (List (Letter P)) → Bool

@@ -28,8 +28,8 @@ pub record IsWorkersLetter {P : Type 0} (config : Config) (w : ℕ) (sign : Sign
 
 -- a past event of the process at its index of worker w
 pub record IsWorkersEvent {P K : Type 0} (config : Config) (w : ℕ) (e : Placed P K) : Type 0 where
-  pub known : number_at config w e.place < config.lps
-  pub own : IsOwnEvent config (number_at config w e.place) e.event
+  pub known : number_at config w e.index < config.lps
+  pub own : IsOwnEvent config (number_at config w e.index) e.event
 
 -- the streams are those of the processes of worker w from an index on
 abbrev pub AreOwnStreams : Config → ℕ → ℕ → List Stream → Type 0
@@ -43,7 +43,7 @@ module _ {P K : Type 0} where
 
   -- the past events of each process rise
   abbrev pub AreRisingPasts : List (Placed P K) → Type 0
-  AreRisingPasts = IsRisingBy (λ d e. d.place ≡ e.place → RankBefore (placed_rank d) (placed_rank e))
+  AreRisingPasts = IsRisingBy (λ d e. d.index ≡ e.index → RankBefore (placed_rank d) (placed_rank e))
 
   -- no two past events have one stamp
   abbrev pub PastsHaveOwnStamps : List (Placed P K) → Type 0

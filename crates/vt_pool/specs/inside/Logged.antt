@@ -10,7 +10,7 @@ use Rattle.vt_pool.specs.inside.View.{Placed}
 -- the past event of an executed event of worker w
 abbrev pub placed : {P K : Type 0} → ℕ → Logged P K → Placed P K
 placed w e = record {
-  place = e.process;
+  index = e.process;
   event = past_event (signed Plus e.entry.event) (record {
     kept = e.entry.kept;
     bits = e.entry.bits;

@@ -19,7 +19,7 @@ module _ {S P K : Type 0} where
   -- after Execute at an index: the least pending letter is gone, this event is the last past one, and the process stands there
   abbrev pub executed_in : ℕ → PastEvent P K → List (Letter P) → Triple S → Stock S P K → Stock S P K
   executed_in i event rest now stock =
-      record stock { triples = slice_set stock.triples i now; past = stock.past ++ record { place = i; event = event } ∷ []; pending = rest }
+      record stock { triples = slice_set stock.triples i now; past = stock.past ++ record { index = i; event = event } ∷ []; pending = rest }
 
   -- after Undo at an index: the last past event of its process is pending again, and the process stands there
   abbrev pub undone_in : ℕ → PastEvent P K → Triple S → Stock S P K → Stock S P K

@@ -11,7 +11,7 @@ use Rattle.vt_lp.specs.inside.Held.{HeldProcess}
 
 -- a past event, and the index of its process among the worker's
 pub record Placed (P K : Type 0) : Type 0 where
-  pub place : ℕ
+  pub index : ℕ
   pub event : PastEvent P K
 
 -- what is kept of all processes together: where each stands, the past events in the order of their execution, and the pending
@@ -25,7 +25,7 @@ pub record Stock (S P K : Type 0) : Type 0 where
 module _ {P K : Type 0} where
   -- whether an event is of the process at an index
   abbrev pub is_at : ℕ → Placed P K → Bool
-  is_at i e = nat_eq e.place i
+  is_at i e = nat_eq e.index i
 
   -- the past events of the process at an index, in their order
   abbrev pub past_at : ℕ → List (Placed P K) → List (PastEvent P K)

@@ -31,10 +31,10 @@ IsRefusedLine count line number _ = ⊥
 
 -- the first line that names none, and why
 pub record FirstRefused (said : List (List ℕ)) (fault : TableFault) : Type 0 where
-  pub place : ℕ
+  pub index : ℕ
   pub table : List ℕ
-  pub before : IsTable (length said) (take place said) table
-  pub refused : IsRefusedLine (length said) (get_or said place []) (place + 1) fault
+  pub before : IsTable (length said) (take index said) table
+  pub refused : IsRefusedLine (length said) (get_or said index []) (index + 1) fault
 
 -- why lines are no table
 abbrev pub IsRefusedTable : List (List ℕ) → TableFault → Type 0

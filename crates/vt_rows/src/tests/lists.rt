@@ -150,7 +150,7 @@ fn tell_row(text: &mut Vec<u8>, row: &Lines<Item>) -> Result<(), Fail> {
     Ok(())
 }
 
-/// The word at this place of a line, or an empty one.
+/// The word at this index of a line, or an empty one.
 fn word_at<'t>(words: &[&'t str], at: usize) -> &'t str {
     words.get(at).copied().unwrap_or("")
 }

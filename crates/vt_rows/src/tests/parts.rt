@@ -33,7 +33,7 @@ fn unpops(ring: &mut Ring<u64, 3>) -> bool {
     is_back
 }
 
-/// What each call answers, by a list in Python with `append` and `pop(0)`, and three places that it writes in turn.
+/// What each call answers, by a list in Python with `append` and `pop(0)`, and three slots that it writes in turn.
 #[test]
 fn a_ring_gives_first_what_came_first(rt: HostRuntime) {
     let mut ring = Ring::<u64, 3>::new(9);

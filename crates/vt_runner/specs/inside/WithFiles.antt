@@ -62,9 +62,9 @@ pub record IsUnread (told : Told) (c : FileChoice) (option : Text) : Type 0 wher
 
 -- the file of one of these options isn't read
 pub record OneIsUnread (told : Told) (choices : List FileChoice) (option : Text) : Type 0 where
-  pub place : ℕ
+  pub index : ℕ
   pub choice : FileChoice
-  pub there : slice_get choices place ≡ Some choice
+  pub there : slice_get choices index ≡ Some choice
   pub unread : IsUnread told choice option
 
 -- a file is refused: memory was, or it isn't read
@@ -79,15 +79,15 @@ AreFilesRefused told choices (refused.Bad option text) = OneIsUnread told choice
 
 -- ---- what is made of them
 
--- the option of this place
+-- the option at this index
 abbrev pub option_at : List FileChoice → ℕ → Text
-option_at choices place = get_or (map (λ (c : FileChoice). c.option.now) choices) place (codes "values")
+option_at choices index = get_or (map (λ (c : FileChoice). c.option.now) choices) index (codes "values")
 
 -- which option is bad where no model is made, and what is said of it
 abbrev pub said_by : List FileChoice → Unmade → Option (Text × Text)
 said_by choices unmade.Memory = None
 said_by choices (unmade.Values text) = Some (codes "values", string_bytes text)
-said_by choices (unmade.File place text) = Some (option_at choices place, string_bytes text)
+said_by choices (unmade.File index text) = Some (option_at choices index, string_bytes text)
 
 -- what a program refuses a model by that isn't made
 abbrev pub IsSaidBy : List FileChoice → Unmade → Refused → Type 0

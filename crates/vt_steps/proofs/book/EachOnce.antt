@@ -26,10 +26,10 @@ use Rattle.vt_steps.specs.promise.Rows.{row_before, rows_from, rows_in_order}
 use Rattle.vt_steps.specs.inside.Rows.{NoneBefore}
 use Rattle.vt_steps.specs.promise.World.{Entry, LogicalProcess, Part, World, entry_events, process_at}
 use Rattle.vt_steps.proofs.book.BookRows.{committed_rows, part_rows, process_rows, rows_from-append}
-use Rattle.vt_steps.proofs.letters.Entries.{process-at_place}
+use Rattle.vt_steps.proofs.letters.Entries.{process-at_index}
 use Rattle.vt_steps.proofs.letters.EventTimes.{early-events}
 use Rattle.vt_key.proofs.ListLemmas.{every-map, every-weaker}
-use Rattle.vt_steps.proofs.letters.ProcessSums.{over_places, sum_by_place-bound, whole-rows-by-process}
+use Rattle.vt_steps.proofs.letters.ProcessSums.{over_indices, sum_by_index-bound, whole-rows-by-process}
 use Rattle.vt_steps.proofs.letters.Ranks.{reached-committed}
 use Rattle.vt_steps.proofs.book.ReachedBooks.{reached-accounted}
 use Rattle.vt_steps.proofs.book.Records.{IsAccounted, floors-right, run_rows, run_rows-before}
@@ -119,19 +119,19 @@ once-rising (r ∷ rs) h once = (after rs h.0 none, once-rising rs h.1 fewer)
 -- ---- the rows of a book weigh at most what the sequential run's before the announced time do
 
 module _ {S P : Type 0} (sim : Simulation S P) (lawful : IsLawful sim) (world : World P) (known : IsAccounted sim world)
-    (committed : (w place : ℕ) (part : Part P) (process : LogicalProcess P) → slice_get world.parts w ≡ Some part → slice_get part.processes place ≡ Some process →
+    (committed : (w index : ℕ) (part : Part P) (process : LogicalProcess P) → slice_get world.parts w ≡ Some part → slice_get part.processes index ≡ Some process →
     AllByRecursion (λ (e : Entry P). TimeBefore e.event.rank.key.time world.board.announced) process.done) (f : Row → ℕ) where
-  -- of the process at a place
-  place-bound : (w place : ℕ) (part : Part P) (process : LogicalProcess P) → slice_get world.parts w ≡ Some part → slice_get part.processes place ≡ Some process →
-      process_rows sim f w place process ≤ run_rows sim lawful world known f world.board.announced (process_at sim w place)
-  place-bound w place part process at there =
+  -- of the process at an index
+  index-bound : (w index : ℕ) (part : Part P) (process : LogicalProcess P) → slice_get world.parts w ≡ Some part → slice_get part.processes index ≡ Some process →
+      process_rows sim f w index process ≤ run_rows sim lawful world known f world.board.announced (process_at sim w index)
+  index-bound w index part process at there =
       let t = world.board.announced in
-      let p = process_at sim w place in
+      let p = process_at sim w index in
       let shape = (known.times.at opening_time).shape in
-      let less = process-known sim world shape w place part process at there in
-      let is = process-at_place sim world w place part process (part-within sim world shape w part at) at there in
+      let less = process-known sim world shape w index part process at there in
+      let is = process-at_index sim world w index part process (part-within sim world shape w part at) at there in
       let soon : AllByRecursion (λ (e : Sent P). TimeBefore e.key.time t) (entry_events process.done) =
-      every-map (λ (e : Entry P). unstamped e.event) (λ (e : Sent P). TimeBefore e.key.time t) process.done (committed w place part process at there) in
+      every-map (λ (e : Entry P). unstamped e.event) (λ (e : Sent P). TimeBefore e.key.time t) process.done (committed w index part process at there) in
       let rest = events_before t (entry_events process.past) in
       let whole : seq_events sim p t ≡ entry_events process.done ++ rest =
       sym (known.histories t p process less (floors-right sim lawful world known).announced is)
@@ -147,11 +147,11 @@ module _ {S P : Type 0} (sim : Simulation S P) (lawful : IsLawful sim) (world : 
       omega arith
 
   -- of a part
-  part-bound : (w : ℕ) (part : Part P) → slice_get world.parts w ≡ Some part → part_rows sim f w part ≤ over_places sim (run_rows sim lawful world known f world.board.announced) w
+  part-bound : (w : ℕ) (part : Part P) → slice_get world.parts w ≡ Some part → part_rows sim f w part ≤ over_indices sim (run_rows sim lawful world known f world.board.announced) w
   part-bound w part at =
       let h = run_rows sim lawful world known f world.board.announced in
-      let a = sum_by_place-bound (process_rows sim f w) (λ place. h (process_at sim w place)) part.processes (λ place process there. place-bound w place part process at there) in
-      let b = ap (λ n. sum_by (λ place. h (process_at sim w place)) (range_with_len 0 n)) ((known.times.at opening_time).shape.processes w part at) in
+      let a = sum_by_index-bound (process_rows sim f w) (λ index. h (process_at sim w index)) part.processes (λ index process there. index-bound w index part process at there) in
+      let b = ap (λ n. sum_by (λ index. h (process_at sim w index)) (range_with_len 0 n)) ((known.times.at opening_time).shape.processes w part at) in
       omega arith
 
   -- of the book
@@ -160,8 +160,8 @@ module _ {S P : Type 0} (sim : Simulation S P) (lawful : IsLawful sim) (world : 
       let t = world.board.announced in
       let h = run_rows sim lawful world known f t in
       let a = known.booked.rows f in
-      let b = sum_by_place-bound (part_rows sim f) (over_places sim h) world.parts (λ w part at. part-bound w part at) in
-      let c = ap (λ n. sum_by (over_places sim h) (range_with_len 0 n)) (known.times.at opening_time).shape.parts in
+      let b = sum_by_index-bound (part_rows sim f) (over_indices sim h) world.parts (λ w part at. part-bound w part at) in
+      let c = ap (λ n. sum_by (over_indices sim h) (range_with_len 0 n)) (known.times.at opening_time).shape.parts in
       let d = whole-rows-by-process sim lawful (early_weight f t) in
       let e = sum_by-before f t (rows_after sim [] (whole_run sim)) in
       omega arith
@@ -170,12 +170,12 @@ module _ {S P : Type 0} (sim : Simulation S P) (lawful : IsLawful sim) (world : 
 
 module _ {S P : Type 0} (sim : Simulation S P) (lawful : IsLawful sim) (serial : ℕ) (steps : List Step) where
   -- all committed events are before the announced time
-  committed-before : (w place : ℕ) (part : Part P) (process : LogicalProcess P) → slice_get (reached sim serial steps).parts w ≡ Some part → slice_get part.processes place ≡ Some process →
+  committed-before : (w index : ℕ) (part : Part P) (process : LogicalProcess P) → slice_get (reached sim serial steps).parts w ≡ Some part → slice_get part.processes index ≡ Some process →
       AllByRecursion (λ (e : Entry P). TimeBefore e.event.rank.key.time (reached sim serial steps).board.announced) process.done
-  committed-before w place part process at there =
+  committed-before w index part process at there =
       let low = (reached-accounted sim lawful serial steps).times.floors.announced w part at in
       every-weaker (λ (e : Entry P). TimeBefore e.event.rank.key.time part.floor) (λ (e : Entry P). TimeBefore e.event.rank.key.time (reached sim serial steps).board.announced) process.done
-      (λ e k. omega arith) (reached-committed sim lawful serial steps w place part process at there)
+      (λ e k. omega arith) (reached-committed sim lawful serial steps w index part process at there)
 
   -- so all rows of the book, put in order, rise strictly by key and index
   pub book-once : IsRisingBy RowBefore (rows_in_order (reached sim serial steps).book.rows)

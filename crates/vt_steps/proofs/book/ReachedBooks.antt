@@ -19,7 +19,7 @@ use Rattle.vt_steps.specs.promise.World.{Entry, LogicalProcess, World, book_floo
 use Rattle.vt_steps.proofs.book.BookRows.{IsBooked, booked-kept, opening-booked}
 use Rattle.vt_steps.proofs.steps.Bounds.{IsBounded, reached-bounds}
 use Rattle.vt_steps.proofs.steps.Changes.{Change, stays, local, sends, fetches, cuts, reports, commits, closes, next_changes}
-use Rattle.vt_steps.proofs.letters.Entries.{process-at_place}
+use Rattle.vt_steps.proofs.letters.Entries.{process-at_index}
 use Rattle.vt_steps.proofs.steps.Everywhere.{InEntry, InProcess, part-in}
 use Rattle.vt_steps.proofs.letters.EventTimes.{early-events}
 use Rattle.vt_steps.proofs.time.Floors.{nothing-falls, reached-times}
@@ -39,10 +39,10 @@ module _ {S P : Type 0} (sim : Simulation S P) (lawful : IsLawful sim) (serial :
   booked-step steps step b =
       let world = reached sim serial steps in
       booked-kept sim world (next sim world step).world b (next_changes sim world step) (reached-times sim lawful serial steps)
-      (λ w place part process at there.
+      (λ w index part process at there.
       rising-right (λ (x y : Entry P). RankBefore x.event.rank y.event.rank) process.done process.past
       (reached-ranks sim lawful serial steps _ process
-      (process-at_place sim world w place part process (part-within sim world (reached-shape sim serial steps) w part at) at there)))
+      (process-at_index sim world w index part process (part-within sim world (reached-shape sim serial steps) w part at) at there)))
 
   -- after each list of steps
   booked-from : (before steps : List Step) → IsBooked sim (reached sim serial before) → IsBooked sim (run sim (reached sim serial before) steps)

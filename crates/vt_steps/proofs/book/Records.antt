@@ -22,12 +22,12 @@ use Rattle.vt_steps.specs.inside.Rows.{AreSameRows}
 use Rattle.vt_steps.specs.promise.World.{Entry, LogicalProcess, Part, World, book_floor, book_rows, entry_events, least, process_at}
 use Rattle.vt_steps.proofs.time.Announced.{announced-least}
 use Rattle.vt_steps.proofs.book.BookRows.{AreNotBefore, IsBooked, part_rows, process_rows}
-use Rattle.vt_steps.proofs.letters.Entries.{process-at_place}
+use Rattle.vt_steps.proofs.letters.Entries.{process-at_index}
 use Rattle.vt_steps.proofs.letters.EventTimes.{AreEventsLate, early-front, ranks-times, rising-times}
 use Rattle.vt_steps.proofs.time.Floors.{AreTimesSound, floor-announced, floor-at}
 use Rattle.vt_key.proofs.ListLemmas.{every-map, every-weaker, rising-left}
-use Rattle.vt_steps.proofs.lists.Places.{get-within}
-use Rattle.vt_steps.proofs.letters.ProcessSums.{over_places, over_processes, sum_by_place-range, whole-rows-by-process}
+use Rattle.vt_steps.proofs.lists.Indices.{get-within}
+use Rattle.vt_steps.proofs.letters.ProcessSums.{over_indices, over_processes, sum_by_index-range, whole-rows-by-process}
 use Rattle.vt_steps.proofs.history.QuietHistories.{DoAllRanksRise}
 use Rattle.vt_steps.proofs.book.RowOrder.{in-order, rising-in-order, same-list, same-sums-in-order}
 use Rattle.vt_steps.proofs.book.SequentialRows.{early_weight, early-rows, seq_rows-rise, sum_by-before}
@@ -63,19 +63,19 @@ module _ {S P : Type 0} (sim : Simulation S P) (lawful : IsLawful sim) (world : 
       ∙ sym (ap (events_before t) (map-append (λ (e : Entry P). unstamped e.event) process.done process.past))
       ∙ known.histories t p process less quiet is
 
-  -- what the book's rows below the floor weigh, of the process at a place
-  place-weight : (f : Row → ℕ) (w place : ℕ) (part : Part P) (process : LogicalProcess P) → slice_get world.parts w ≡ Some part → slice_get part.processes place ≡ Some process →
-      process_rows sim (early_weight f (book_floor sim.end world.book)) w place process ≡ run_rows f (book_floor sim.end world.book) (process_at sim w place)
-  place-weight f w place part process at there =
+  -- what the book's rows below the floor weigh, of the process at an index
+  index-weight : (f : Row → ℕ) (w index : ℕ) (part : Part P) (process : LogicalProcess P) → slice_get world.parts w ≡ Some part → slice_get part.processes index ≡ Some process →
+      process_rows sim (early_weight f (book_floor sim.end world.book)) w index process ≡ run_rows f (book_floor sim.end world.book) (process_at sim w index)
+  index-weight f w index part process at there =
       let t = book_floor sim.end world.book in
-      let p = process_at sim w place in
+      let p = process_at sim w index in
       let shape = (known.times.at opening_time).shape in
-      let less = process-known sim world shape w place part process at there in
-      let is = process-at_place sim world w place part process (part-within sim world shape w part at) at there in
+      let less = process-known sim world shape w index part process at there in
+      let is = process-at_index sim world w index part process (part-within sim world shape w part at) at there in
       let floor = get-within world.book.floors w (let a = slice_get_within world.parts w part at in let b = known.times.floors.size in omega arith) in
       let low = floor-at sim.end world.book.floors w floor.0 floor.1 in
       let late = every-weaker (λ (e : Entry P). TimeAtMost floor.0 e.event.rank.key.time) (λ (e : Entry P). TimeAtMost t e.event.rank.key.time) process.past (λ e k. omega arith)
-      (known.booked.past_late w part at floor.0 floor.1 place process there) in
+      (known.booked.past_late w part at floor.0 floor.1 index process there) in
       let a = floors-right.floor in
       let b = floors-right.announced in
       let same = committed-sequential t p process less (omega arith) is late in
@@ -86,11 +86,11 @@ module _ {S P : Type 0} (sim : Simulation S P) (lawful : IsLawful sim) (world : 
 
   -- of a part
   part-weight : (f : Row → ℕ) (w : ℕ) (part : Part P) → slice_get world.parts w ≡ Some part →
-      part_rows sim (early_weight f (book_floor sim.end world.book)) w part ≡ over_places sim (run_rows f (book_floor sim.end world.book)) w
+      part_rows sim (early_weight f (book_floor sim.end world.book)) w part ≡ over_indices sim (run_rows f (book_floor sim.end world.book)) w
   part-weight f w part at =
       let t = book_floor sim.end world.book in
-      sum_by_place-range (process_rows sim (early_weight f t) w) (λ place. run_rows f t (process_at sim w place)) part.processes (λ place process there. place-weight f w place part process at there)
-      ∙ ap (λ n. sum_by (λ place. run_rows f t (process_at sim w place)) (range_with_len 0 n)) ((known.times.at opening_time).shape.processes w part at)
+      sum_by_index-range (process_rows sim (early_weight f t) w) (λ index. run_rows f t (process_at sim w index)) part.processes (λ index process there. index-weight f w index part process at there)
+      ∙ ap (λ n. sum_by (λ index. run_rows f t (process_at sim w index)) (range_with_len 0 n)) ((known.times.at opening_time).shape.processes w part at)
 
   -- the book's rows below its floor weigh what the sequential run's rows below it weigh
   same-sums : AreSameRows (rows_before (book_floor sim.end world.book) world.book.rows) (seq_rows sim (book_floor sim.end world.book))
@@ -99,8 +99,8 @@ module _ {S P : Type 0} (sim : Simulation S P) (lawful : IsLawful sim) (world : 
       let g = early_weight f t in
       let book : sum_by g world.book.rows ≡ over_processes sim (run_rows f t) =
       known.booked.rows g
-      ∙ sum_by_place-range (part_rows sim g) (over_places sim (run_rows f t)) world.parts (λ w part at. part-weight f w part at)
-      ∙ ap (λ n. sum_by (over_places sim (run_rows f t)) (range_with_len 0 n)) (known.times.at opening_time).shape.parts in
+      ∙ sum_by_index-range (part_rows sim g) (over_indices sim (run_rows f t)) world.parts (λ w part at. part-weight f w part at)
+      ∙ ap (λ n. sum_by (over_indices sim (run_rows f t)) (range_with_len 0 n)) (known.times.at opening_time).shape.parts in
       sum_by-before f t world.book.rows ∙ book ∙ sym (whole-rows-by-process sim lawful g) ∙ sym (sum_by-before f t (rows_after sim [] (whole_run sim)))
 
   -- so it shows exactly those rows

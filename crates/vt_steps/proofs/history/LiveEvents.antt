@@ -19,7 +19,7 @@ use Rattle.vt_steps.specs.promise.World.{Entry, World, entry_events, process_at,
 use Rattle.vt_key.proofs.ListLemmas.{among-append, among-flat_map, among-left, among-map, among-range, among-right, every-all, flat_map-among, map-among, range-among, rising-unmap, same-element}
 use Rattle.vt_steps.proofs.lists.Sums.{some-among, some-either, sum-among}
 use Rattle.vt_steps.proofs.letters.Stamped.{unstamped-stamped}
-use Rattle.vt_steps.proofs.steps.Shape.{IsShaped, known-place, own-place, place-known, place-of_place, worker-of_place}
+use Rattle.vt_steps.proofs.steps.Shape.{IsShaped, known-index, own-index, index-known, index-of_index, worker-of_index}
 use Rattle.vt_steps.proofs.steps.Everywhere.{events_of_starts}
 use Rattle.vt_steps.proofs.history.OwnHistories.{AreFired, IsOwnWorld, events_sent, fired-sends}
 use Rattle.vt_steps.proofs.letters.Entries.{entries_of, entry-counted, entry-found, by-process, own-stamp, stamp-counted}
@@ -88,9 +88,9 @@ numbered-rising p low high (x ∷ xs) h = (
 -- ---- live events
 
 module _ {S P : Type 0} (sim : Simulation S P) (serial : ℕ) where
-  -- what the start of a place of w sends
+  -- what the start of the process at an index of w sends
   abbrev sends_at : ℕ → ℕ → List (Sent P)
-  sends_at w place = (sim.start (process_at sim w place)).sends
+  sends_at w index = (sim.start (process_at sim w index)).sends
 
   -- what the start of p sent, with its stamps
   abbrev first_events : ℕ → List (Event P)
@@ -108,19 +108,19 @@ module _ {S P : Type 0} (sim : Simulation S P) (serial : ℕ) where
   pub start-first : (x : Event P) (w : ℕ) → w < sim.workers → Among x (start_events sim serial w) → (p : ℕ) × (p < sim.lps) × Among x (first_events p)
   start-first x w within m =
       let r = stamped-piece (sends_at w) w serial (process_count sim w) x m in
-      let worker = worker-of_place sim w r.0 within in
-      let place = place-of_place sim w r.0 within in (
+      let worker = worker-of_index sim w r.0 within in
+      let index = index-of_index sim w r.0 within in (
         process_at sim w r.0,
-        place-known sim w r.0 within r.1,
+        index-known sim w r.0 within r.1,
         subst (λ v. Among x (stamped v (serial + length (pieces_before (sends_at v) (process_at sim w r.0 / sim.workers))) (sim.start (process_at sim w r.0)).sends)) (sym worker)
-            (subst (λ k. Among x (stamped w (serial + length (pieces_before (sends_at w) k)) (sim.start (process_at sim w r.0)).sends)) (sym place) r.2),
+            (subst (λ k. Among x (stamped w (serial + length (pieces_before (sends_at w) k)) (sim.start (process_at sim w r.0)).sends)) (sym index) r.2),
       )
 
   -- and the way back
   first-start : (x : Event P) (p : ℕ) → 1 ≤ sim.workers → p < sim.lps → Among x (first_events p) → Among x (start_events sim serial (p % sim.workers))
   first-start x p some less m =
-      piece-stamped (sends_at (p % sim.workers)) (p % sim.workers) serial (process_count sim (p % sim.workers)) (p / sim.workers) x (known-place sim p some less)
-      (subst (λ q. Among x (stamped (p % sim.workers) (serial + length (pieces_before (sends_at (p % sim.workers)) (p / sim.workers))) (sim.start q).sends)) (sym (own-place sim p)) m)
+      piece-stamped (sends_at (p % sim.workers)) (p % sim.workers) serial (process_count sim (p % sim.workers)) (p / sim.workers) x (known-index sim p some less)
+      (subst (λ q. Among x (stamped (p % sim.workers) (serial + length (pieces_before (sends_at (p % sim.workers)) (p / sim.workers))) (sim.start q).sends)) (sym (own-index sim p)) m)
 
   -- it is among the events of all starts
   pub first-among : (x : Event P) (p : ℕ) → 1 ≤ sim.workers → p < sim.lps → Among x (first_events p) → Among x (events_of_starts sim serial)
@@ -175,7 +175,7 @@ module _ {S P : Type 0} (sim : Simulation S P) (serial : ℕ) where
   entries-fired : (world : World P) → IsOwnWorld sim world → (p : ℕ) → AreFired sim p (sim.start p).triple (entries_of sim world p)
   entries-fired world own p =
       by-process sim world p (AreFired sim p (sim.start p).triple) tt
-      (λ process is. subst (λ q. AreFired sim q (sim.start q).triple (process.done ++ process.past)) (own-place sim p)
+      (λ process is. subst (λ q. AreFired sim q (sim.start q).triple (process.done ++ process.past)) (own-index sim p)
       ((own.parts (p % sim.workers) is.0 is.1).history (p / sim.workers) process is.2).fired)
 
   -- the live events of p are what p sends, stamps aside

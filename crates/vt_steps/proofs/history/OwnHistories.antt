@@ -23,7 +23,7 @@ use Rattle.vt_steps.specs.promise.PartSteps.{is_below, is_for, mail_of_send, par
 use Rattle.vt_steps.specs.promise.ProcessSteps.{ProcessEffect, effect_of_execute, effect_of_undo, with_letter}
 use Rattle.vt_steps.specs.promise.World.{Entry, LogicalProcess, Part, World, entry_events, opening_part, opening_world, process_at, process_count, triple_after}
 use Rattle.vt_key.proofs.ListLemmas.{before_last, every-append, every-get, every-insert_ordered, every-left, every-map, every-remove, every-right, every-without_first, filter-passes, find-passes}
-use Rattle.vt_steps.proofs.lists.Places.{all-put, get-map, get-replicate}
+use Rattle.vt_steps.proofs.lists.Indices.{all-put, get-map, get-replicate}
 use Rattle.vt_steps.proofs.letters.Stamped.{unstamped-stamped}
 use Rattle.vt_steps.proofs.steps.Changes.{Act, executes, undoes, cancels, Leaves, homes, arrives, Local, acts, takes, Change, stays, local, sends, fetches, cuts, reports, commits, closes, run_keeps}
 
@@ -124,13 +124,13 @@ module _ {S P : Type 0} (sim : Simulation S P) (p : ℕ) where
 
 -- the histories of a worker's processes are their own, and its arrived mail is for them
 pub record IsOwnPart {S P : Type 0} (sim : Simulation S P) (w : ℕ) (part : Part P) : Type 0 where
-  pub history : (place : ℕ) (process : LogicalProcess P) → slice_get part.processes place ≡ Some process → IsOwnHistory sim (process_at sim w place) process
+  pub history : (index : ℕ) (process : LogicalProcess P) → slice_get part.processes index ≡ Some process → IsOwnHistory sim (process_at sim w index) process
   pub arrived : AllByRecursion (λ mail. is_for sim.workers w mail.letter ≡ true) part.arrived
 
 module _ {S P : Type 0} (sim : Simulation S P) (w : ℕ) where
-  -- a letter for a worker is for the process of its place
-  receiver-place : (letter : Letter P) → is_for sim.workers w letter ≡ true → letter.event.dest ≡ process_at sim w (letter.event.dest / sim.workers)
-  receiver-place letter h =
+  -- a letter for a worker is for the process of its index
+  receiver-index : (letter : Letter P) → is_for sim.workers w letter ≡ true → letter.event.dest ≡ process_at sim w (letter.event.dest / sim.workers)
+  receiver-index letter h =
       let own : letter.event.dest % sim.workers ≡ w = eqb-true (letter.event.dest % sim.workers) w h in
       let whole = div-add-mod' letter.event.dest sim.workers in
       omega arith
@@ -145,23 +145,23 @@ module _ {S P : Type 0} (sim : Simulation S P) (w : ℕ) where
   )
 
   -- a process gives way to one whose history is its own
-  put-own : (part : Part P) (place : ℕ) (old new : LogicalProcess P) → slice_get part.processes place ≡ Some old → IsOwnPart sim w part →
-      (IsOwnHistory sim (process_at sim w place) old → IsOwnHistory sim (process_at sim w place) new) →
-      (j : ℕ) (process : LogicalProcess P) → slice_get (slice_set part.processes place new) j ≡ Some process → IsOwnHistory sim (process_at sim w j) process
-  put-own part place old new at h f = all-put (λ j z. IsOwnHistory sim (process_at sim w j) z) part.processes place old new at h.history f
+  put-own : (part : Part P) (index : ℕ) (old new : LogicalProcess P) → slice_get part.processes index ≡ Some old → IsOwnPart sim w part →
+      (IsOwnHistory sim (process_at sim w index) old → IsOwnHistory sim (process_at sim w index) new) →
+      (j : ℕ) (process : LogicalProcess P) → slice_get (slice_set part.processes index new) j ≡ Some process → IsOwnHistory sim (process_at sim w j) process
+  put-own part index old new at h f = all-put (λ j z. IsOwnHistory sim (process_at sim w j) z) part.processes index old new at h.history f
 
   -- a local step
   local-own : (old new : Part P) → Local sim w old new → IsOwnPart sim w old → IsOwnPart sim w new
-  local-own old new (acts place process effect at act is) h =
+  local-own old new (acts index process effect at act is) h =
       subst (IsOwnPart sim w) (sym is) (record {
-        history = put-own old place process effect.process at h (act-history sim (process_at sim w place) w old.serial process effect act);
+        history = put-own old index process effect.process at h (act-history sim (process_at sim w index) w old.serial process effect act);
         arrived = h.arrived;
       })
-  local-own old new (takes part letter place process leaves at place_is free is) h =
+  local-own old new (takes part letter index process leaves at index_is free is) h =
       let left = leaves-own old part letter leaves h in
-      let to : letter.event.dest ≡ process_at sim w place = receiver-place letter left.1 ∙ ap (process_at sim w) (sym place_is) in
+      let to : letter.event.dest ≡ process_at sim w index = receiver-index letter left.1 ∙ ap (process_at sim w) (sym index_is) in
       subst (IsOwnPart sim w) (sym is) (record {
-        history = put-own part place process (with_letter process letter.sign letter) at left.0 (with_letter-history sim (process_at sim w place) process letter.sign letter to);
+        history = put-own part index process (with_letter process letter.sign letter) at left.0 (with_letter-history sim (process_at sim w index) process letter.sign letter to);
         arrived = left.0.arrived;
       })
 
@@ -211,9 +211,9 @@ module _ {S P : Type 0} (sim : Simulation S P) where
   }
   own-kept old new (commits w part is open_is may e) h = record {
     parts = part-own old new w part (part_after_commit part) is (ap (λ n. n.parts) e) h (λ here. record {
-      history = λ place process at. (
-          let found = get-map (process_after_commit part.floor) part.processes place process at in
-          subst (IsOwnHistory sim (process_at sim w place)) (sym found.2) (commit-history sim (process_at sim w place) part.floor found.0 (here.history place found.0 found.1)));
+      history = λ index process at. (
+          let found = get-map (process_after_commit part.floor) part.processes index process at in
+          subst (IsOwnHistory sim (process_at sim w index)) (sym found.2) (commit-history sim (process_at sim w index) part.floor found.0 (here.history index found.0 found.1)));
       arrived = here.arrived;
     });
     inboxes = same-inboxes old new (ap (λ n. n.inboxes) e) h;
@@ -231,7 +231,7 @@ module _ {S P : Type 0} (sim : Simulation S P) where
         let from = get-map (opening_part sim serial) (range_with_len 0 sim.workers) w part at in
         let empty : LogicalProcess P = record { done = []; past = []; pending = []; waiting = [] } in
         subst (IsOwnPart sim w) (sym from.2) (record {
-          history = λ place process there. subst (IsOwnHistory sim (process_at sim w place)) (sym (get-replicate (process_count sim from.0) place empty process there)) (record { fired = tt; receiver = tt; pending = tt });
+          history = λ index process there. subst (IsOwnHistory sim (process_at sim w index)) (sym (get-replicate (process_count sim from.0) index empty process there)) (record { fired = tt; receiver = tt; pending = tt });
           arrived = tt;
         }));
     inboxes = λ v inbox at. (let none : List (Mail P) = [] in subst (AllByRecursion (λ mail. is_for sim.workers v mail.letter ≡ true)) (sym (get-replicate sim.workers v none inbox at)) tt);

@@ -31,7 +31,7 @@ use Rattle.vt_steps.specs.promise.World.{Entry, LogicalProcess, World, all_lette
 use Rattle.vt_key.proofs.ListLemmas.{among-append, among-filter, among-left, among-map, among-right, every-among, filter-among, flat_map-among, map-among, rising-filter, rising-map, rising-weaker}
 use Rattle.vt_steps.proofs.lists.Sums.{some-either}
 use Rattle.vt_steps.proofs.letters.Stamped.{Alike}
-use Rattle.vt_steps.proofs.steps.Shape.{IsShaped, own-place, reached-shape}
+use Rattle.vt_steps.proofs.steps.Shape.{IsShaped, own-index, reached-shape}
 use Rattle.vt_steps.proofs.letters.Stamps.{stamp-facts}
 use Rattle.vt_steps.proofs.steps.Everywhere.{events_of_starts, letter-in}
 use Rattle.vt_steps.proofs.time.Agreement.{DoCopiesAgree, IsOnlyOne, OfAllCopies, reached-agreement}
@@ -186,7 +186,7 @@ module _ {S P : Type 0} (sim : Simulation S P) (lawful : IsLawful sim) (serial :
       receiver p entry =
           by-process sim world p (λ l. Among entry l → entry.event.dest ≡ p) (λ m. absurd m)
           (λ process is m. every-among (λ e. e.event.dest ≡ p) (process.done ++ process.past) entry
-          (subst (λ q. AllByRecursion (λ e. e.event.dest ≡ q) (process.done ++ process.past)) (own-place sim p) ((sound.own.parts (p % sim.workers) is.0 is.1).history (p / sim.workers) process is.2).receiver) m)
+          (subst (λ q. AllByRecursion (λ e. e.event.dest ≡ q) (process.done ++ process.past)) (own-index sim p) ((sound.own.parts (p % sim.workers) is.0 is.1).history (p / sim.workers) process is.2).receiver) m)
 
       -- its ranks rise
       entries-rise : (p : ℕ) → IsRisingBy (λ (d e : Entry P). RankBefore d.event.rank e.event.rank) (entries_of sim world p)

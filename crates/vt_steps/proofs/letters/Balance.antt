@@ -23,7 +23,7 @@ use Rattle.vt_steps.specs.promise.PartSteps.{is_below, is_for, mail_of_send, par
 use Rattle.vt_steps.specs.promise.ProcessSteps.{ProcessEffect, effect_of_execute, effect_of_undo, with_letter}
 use Rattle.vt_steps.specs.promise.World.{Entry, LogicalProcess, Part, World, process_at, triple_after}
 use Rattle.vt_key.proofs.ListLemmas.{find-passes}
-use Rattle.vt_steps.proofs.lists.Places.{get-put_same, get-put_other}
+use Rattle.vt_steps.proofs.lists.Indices.{get-put_same, get-put_other}
 use Rattle.vt_steps.proofs.lists.Sums.{sum_by-put, sum_by-without_first, sum_by-insert_ordered, sum_by-filters, sum_by-map, sum_by-before_last, sum_by-remove, sum_by-single}
 use Rattle.vt_steps.proofs.letters.Stamped.{length-stamped}
 use Rattle.vt_steps.proofs.steps.Changes.{Act, executes, undoes, cancels, Leaves, homes, arrives, Local, acts, takes, Change, stays, local, sends, fetches, cuts, reports, commits, closes}
@@ -111,18 +111,18 @@ pub record WorldBalance {P : Type 0} (old new : World P) (come gone : List (Lett
   pub entries : (g : Entry P → ℕ) → entry_sum g new + sum_by g fewer ≡ entry_sum g old + sum_by g more
 
 -- a step at a process, with the letters that it sends
-pub effect-balance : {P : Type 0} (old : Part P) (place : ℕ) (process : LogicalProcess P) (effect : ProcessEffect P) (come gone : List (Letter P)) (more fewer : List (Entry P)) →
-    slice_get old.processes place ≡ Some process → ProcessBalance process effect.process come gone more fewer →
-    PartBalance old (with_effect old place effect) (come ++ effect.letters) gone more fewer
-effect-balance old place process effect come gone more fewer is b = record {
+pub effect-balance : {P : Type 0} (old : Part P) (index : ℕ) (process : LogicalProcess P) (effect : ProcessEffect P) (come gone : List (Letter P)) (more fewer : List (Entry P)) →
+    slice_get old.processes index ≡ Some process → ProcessBalance process effect.process come gone more fewer →
+    PartBalance old (with_effect old index effect) (come ++ effect.letters) gone more fewer
+effect-balance old index process effect come gone more fewer is b = record {
   letters = λ f.
-      (let a = sum_by-put (process_sum f) old.processes place process effect.process is in
+      (let a = sum_by-put (process_sum f) old.processes index process effect.process is in
       let c = sum_by-append (letter_weight f) old.outbox effect.letters in
       let d = sum_by-append (letter_weight f) come effect.letters in
       let e = b.letters f in
       omega arith);
   entries = λ g.
-      (let a = sum_by-put (process_entries g) old.processes place process effect.process is in
+      (let a = sum_by-put (process_entries g) old.processes index process effect.process is in
       let e = b.entries g in
       omega arith);
 }
@@ -192,50 +192,50 @@ pub data CopyChange {P : Type 0} (old new : World P) : Type 0 where
       WorldBalance old new [] (signed Minus minus ∷ signed Plus plus ∷ []) [] [] → SerialsRise old new w 0 → CopyChange old new
 
 -- a process acts
-act-copies : {S P : Type 0} (sim : Simulation S P) (old new : World P) (w place : ℕ) (part after : Part P) (process : LogicalProcess P) (effect : ProcessEffect P) →
-    slice_get old.parts w ≡ Some part → slice_get part.processes place ≡ Some process → new ≡ with_part old w after → after ≡ with_effect part place effect →
-    Act sim (process_at sim w place) w part.serial process effect → CopyChange old new
+act-copies : {S P : Type 0} (sim : Simulation S P) (old new : World P) (w index : ℕ) (part after : Part P) (process : LogicalProcess P) (effect : ProcessEffect P) →
+    slice_get old.parts w ≡ Some part → slice_get part.processes index ≡ Some process → new ≡ with_part old w after → after ≡ with_effect part index effect →
+    Act sim (process_at sim w index) w part.serial process effect → CopyChange old new
 unfolding effect_of_execute effect_of_undo
-act-copies {P = P} sim old new w place part after process effect is at new_is after_is (executes least rest pending follows effect_is) =
-    let same = new_is ∙ ap (with_part old w) (after_is ∙ ap (with_effect part place) effect_is) in
-    let unsent : List (Sent P) = (sim.fire (process_at sim w place) (triple_after sim (process_at sim w place) (process.done ++ process.past)) (unstamped least.event)).sends in
-    let next_part = with_effect part place (effect_of_execute sim (process_at sim w place) w part.serial process least rest) in
+act-copies {P = P} sim old new w index part after process effect is at new_is after_is (executes least rest pending follows effect_is) =
+    let same = new_is ∙ ap (with_part old w) (after_is ∙ ap (with_effect part index) effect_is) in
+    let unsent : List (Sent P) = (sim.fire (process_at sim w index) (triple_after sim (process_at sim w index) (process.done ++ process.past)) (unstamped least.event)).sends in
+    let next_part = with_effect part index (effect_of_execute sim (process_at sim w index) w part.serial process least rest) in
     subst (λ n. CopyChange old n) (sym same)
     (made_live w part.serial least.event unsent (slice_get_within old.parts w part is) (ap (λ o. option_map_or (λ p. p.serial) o 0) is)
     (with_part-balance old w part next_part _ _ _ _ is
-    (effect-balance part place process (effect_of_execute sim (process_at sim w place) w part.serial process least rest) _ _ _ _ at
-    (execute-balance sim (process_at sim w place) w part.serial process least rest pending)))
+    (effect-balance part index process (effect_of_execute sim (process_at sim w index) w part.serial process least rest) _ _ _ _ at
+    (execute-balance sim (process_at sim w index) w part.serial process least rest pending)))
     (serials-rise old (with_part old w next_part) w part next_part (length unsent) is refl
     (ap (λ n. part.serial + n) (length-stamped w part.serial unsent))))
-act-copies sim old new w place part after process effect is at new_is after_is (undoes last last_is must effect_is) =
-    let same = new_is ∙ ap (with_part old w) (after_is ∙ ap (with_effect part place) effect_is) in
-    let next_part = with_effect part place (effect_of_undo process last) in
+act-copies sim old new w index part after process effect is at new_is after_is (undoes last last_is must effect_is) =
+    let same = new_is ∙ ap (with_part old w) (after_is ∙ ap (with_effect part index) effect_is) in
+    let next_part = with_effect part index (effect_of_undo process last) in
     subst (λ n. CopyChange old n) (sym same)
     (made_dead w last
     (with_part-balance old w part next_part _ _ _ _ is
-    (effect-balance part place process (effect_of_undo process last) _ _ _ _ at (undo-balance process last last_is)))
+    (effect-balance part index process (effect_of_undo process last) _ _ _ _ at (undo-balance process last last_is)))
     (serials-rise old (with_part old w next_part) w part next_part 0 is refl refl))
-act-copies {P = P} sim old new w place part after process effect is at new_is after_is (cancels stamp minus plus waits pends keys effect_is) =
-    let same = new_is ∙ ap (with_part old w) (after_is ∙ ap (with_effect part place) effect_is) in
+act-copies {P = P} sim old new w index part after process effect is at new_is after_is (cancels stamp minus plus waits pends keys effect_is) =
+    let same = new_is ∙ ap (with_part old w) (after_is ∙ ap (with_effect part index) effect_is) in
     let act : ProcessEffect P = record {
       process = record process { pending = without_first (has_stamp stamp) process.pending; waiting = without_first (has_stamp stamp) process.waiting };
       letters = [];
       serials = 0;
     } in
-    let next_part = with_effect part place act in
+    let next_part = with_effect part index act in
     subst (λ n. CopyChange old n) (sym same)
     (annihilates w stamp minus.event plus.event (find-passes (has_stamp stamp) process.waiting minus waits) (find-passes (has_stamp stamp) process.pending plus pends)
     (with_part-balance old w part next_part _ _ _ _ is
-    (effect-balance part place process act _ _ _ _ at (cancel-balance process stamp minus plus waits pends)))
+    (effect-balance part index process act _ _ _ _ at (cancel-balance process stamp minus plus waits pends)))
     (serials-rise old (with_part old w next_part) w part next_part 0 is refl refl))
 
 -- a process takes a letter: nothing comes or goes
-pub takes-balance : {S P : Type 0} (sim : Simulation S P) (w place : ℕ) (old part : Part P) (letter : Letter P) (process : LogicalProcess P) →
-    Leaves sim w old part letter → slice_get part.processes place ≡ Some process →
-    PartBalance old (with_effect part place (record { process = with_letter process letter.sign letter; letters = []; serials = 0 })) [] [] [] []
-takes-balance {P = P} sim w place old part letter process leaves at =
+pub takes-balance : {S P : Type 0} (sim : Simulation S P) (w index : ℕ) (old part : Part P) (letter : Letter P) (process : LogicalProcess P) →
+    Leaves sim w old part letter → slice_get part.processes index ≡ Some process →
+    PartBalance old (with_effect part index (record { process = with_letter process letter.sign letter; letters = []; serials = 0 })) [] [] [] []
+takes-balance {P = P} sim w index old part letter process leaves at =
     let act : ProcessEffect P = record { process = with_letter process letter.sign letter; letters = []; serials = 0 } in
-    let b = effect-balance part place process act (letter ∷ []) [] [] [] at (letter-balance process letter) in
+    let b = effect-balance part index process act (letter ∷ []) [] [] [] at (letter-balance process letter) in
     record {
       letters = λ f.
           (let x = leaves-balance sim w old part letter leaves f in
@@ -251,12 +251,12 @@ takes-balance {P = P} sim w place old part letter process leaves at =
 -- a local step
 local-copies : {S P : Type 0} (sim : Simulation S P) (old new : World P) (w : ℕ) (part after : Part P) → slice_get old.parts w ≡ Some part →
     new ≡ with_part old w after → Local sim w part after → CopyChange old new
-local-copies sim old new w part after is new_is (acts place process effect at act after_is) = act-copies sim old new w place part after process effect is at new_is after_is act
-local-copies {P = P} sim old new w part after is new_is (takes mid letter place process leaves at place_is free after_is) =
+local-copies sim old new w part after is new_is (acts index process effect at act after_is) = act-copies sim old new w index part after process effect is at new_is after_is act
+local-copies {P = P} sim old new w part after is new_is (takes mid letter index process leaves at index_is free after_is) =
     let act : ProcessEffect P = record { process = with_letter process letter.sign letter; letters = []; serials = 0 } in
-    let next_part = with_effect mid place act in
+    let next_part = with_effect mid index act in
     subst (λ n. CopyChange old n) (sym (new_is ∙ ap (with_part old w) after_is))
-    (moves w (with_part-balance old w part next_part _ _ _ _ is (takes-balance sim w place part mid letter process leaves at))
+    (moves w (with_part-balance old w part next_part _ _ _ _ is (takes-balance sim w index part mid letter process leaves at))
     (serials-rise old (with_part old w next_part) w part next_part 0 is refl (ap (λ n. n + 0) (leaves-same sim w part mid letter leaves).1)))
 
 -- a part that keeps its letters, entries and serial

@@ -19,7 +19,7 @@ use Rattle.vt_steps.specs.promise.World.{Entry, LogicalProcess, Part, World, let
 use Rattle.vt_key.proofs.ListLemmas.{among-left, among-right, among-append, among-flat_map, among-map, every-among, every-append, every-get}
 use Rattle.vt_steps.proofs.lists.Sums.{some-at, some-among, some-either, sum-among, sum-at}
 use Rattle.vt_steps.proofs.steps.Changes.{chain_has}
-use Rattle.vt_steps.proofs.steps.Shape.{IsShaped, process-known, part-within, place-of_place, worker-of_place}
+use Rattle.vt_steps.proofs.steps.Shape.{IsShaped, process-known, part-within, index-of_index, worker-of_index}
 use Rattle.vt_steps.proofs.steps.Everywhere.{InEntry, InProcess, InWorld, part-in}
 
 -- ---- by the number of a process
@@ -58,12 +58,12 @@ module _ {S P : Type 0} (sim : Simulation S P) (world : World P) where
       of None is = nothing
       of (Some process) is = some process (is-process p process is)
 
-  -- the process at a place of a worker has its number
-  pub process-at_place : (w place : ℕ) (part : Part P) (process : LogicalProcess P) → w < sim.workers → slice_get world.parts w ≡ Some part → slice_get part.processes place ≡ Some process →
-      IsProcess sim world (process_at sim w place) process
-  process-at_place w place part process within at there =
-      let rest = worker-of_place sim w place within in
-      let whole = place-of_place sim w place within in
+  -- the process at an index of a worker has its number
+  pub process-at_index : (w index : ℕ) (part : Part P) (process : LogicalProcess P) → w < sim.workers → slice_get world.parts w ≡ Some part → slice_get part.processes index ≡ Some process →
+      IsProcess sim world (process_at sim w index) process
+  process-at_index w index part process within at there =
+      let rest = worker-of_index sim w index within in
+      let whole = index-of_index sim w index within in
       (part, ap (slice_get world.parts) rest ∙ at, ap (slice_get part.processes) whole ∙ there)
 
 -- ---- an entry and the sums
@@ -101,7 +101,7 @@ module _ {S P : Type 0} (sim : Simulation S P) (world : World P) where
         | inl a ↦ (let t = some-among g s.1.done a in (t.0, among-left t.0 s.1.done s.1.past t.1, t.2))
         | inr b ↦ (let t = some-among g s.1.past b in (t.0, among-right t.0 s.1.done s.1.past t.1, t.2))
       ] in
-      let is = process-at_place sim world r.0 s.0 r.1 s.1 (part-within sim world shape r.0 r.1 r.2) r.2 s.2 in (
+      let is = process-at_index sim world r.0 s.0 r.1 s.1 (part-within sim world shape r.0 r.1 r.2) r.2 s.2 in (
         process_at sim r.0 s.0,
         process-known sim world shape r.0 s.0 r.1 s.1 r.2 s.2,
         here.0,

@@ -67,26 +67,26 @@ locally-done {P = P} world w step e = by_part (slice_get world.parts w) refl
     by_part (Some part) is = by_new part (step part) is refl
 
 -- a step of a process that is done, and what it does there
-record DoneAt {P : Type 0} (step : LogicalProcess P → Option (ProcessEffect P)) (place : ℕ) (part new : Part P) : Type 0 where
+record DoneAt {P : Type 0} (step : LogicalProcess P → Option (ProcessEffect P)) (index : ℕ) (part new : Part P) : Type 0 where
   process : LogicalProcess P
   effect : ProcessEffect P
-  at : slice_get part.processes place ≡ Some process
+  at : slice_get part.processes index ≡ Some process
   takes : step process ≡ Some effect
-  gives : new ≡ with_effect part place effect
+  gives : new ≡ with_effect part index effect
 
-at_process-done : {P : Type 0} (step : LogicalProcess P → Option (ProcessEffect P)) (place : ℕ) (part new : Part P) → at_process step place part ≡ Some new → DoneAt step place part new
-at_process-done step place part new e =
-    let has = map_has (with_effect part place) (option_and_then step (slice_get part.processes place)) new e in
-    let at = chain_has step (slice_get part.processes place) has.0 has.1 in
+at_process-done : {P : Type 0} (step : LogicalProcess P → Option (ProcessEffect P)) (index : ℕ) (part new : Part P) → at_process step index part ≡ Some new → DoneAt step index part new
+at_process-done step index part new e =
+    let has = map_has (with_effect part index) (option_and_then step (slice_get part.processes index)) new e in
+    let at = chain_has step (slice_get part.processes index) has.0 has.1 in
     record { process = at.0; effect = has.0; at = at.1; takes = at.2; gives = has.2 }
 
 -- the sums over the world after such a step
-process-letters : {P : Type 0} (world : World P) (w place : ℕ) (step : Part P → Option (Part P)) (d : DoneLocally world w step)
-    (at_one : LogicalProcess P → Option (ProcessEffect P)) (a : DoneAt at_one place d.part d.new) (come gone : List (Letter P)) (more fewer : List (Entry P)) →
+process-letters : {P : Type 0} (world : World P) (w index : ℕ) (step : Part P → Option (Part P)) (d : DoneLocally world w step)
+    (at_one : LogicalProcess P → Option (ProcessEffect P)) (a : DoneAt at_one index d.part d.new) (come gone : List (Letter P)) (more fewer : List (Entry P)) →
     ProcessBalance a.process a.effect.process come gone more fewer → (f : Sign → Event P → ℕ) →
     letter_sum f (locally world w step).world + sum_by (letter_weight f) gone ≡ letter_sum f world + (sum_by (letter_weight f) come + sum_by (letter_weight f) a.effect.letters)
-process-letters world w place step d at_one a come gone more fewer balance f =
-    let b = (with_part-balance world w d.part (with_effect d.part place a.effect) _ _ _ _ d.is (effect-balance d.part place a.process a.effect come gone more fewer a.at balance)).letters f in
+process-letters world w index step d at_one a come gone more fewer balance f =
+    let b = (with_part-balance world w d.part (with_effect d.part index a.effect) _ _ _ _ d.is (effect-balance d.part index a.process a.effect come gone more fewer a.at balance)).letters f in
     let c = ap (letter_sum f) (d.gives ∙ ap (with_part world w) a.gives) in
     let e = sum_by-append (letter_weight f) come a.effect.letters in
     omega arith
@@ -138,10 +138,10 @@ execute-letters : {S P : Type 0} (sim : Simulation S P) (world : World P) (p : �
 unfolding next effect_of_execute
 execute-letters {P = P} sim world p done =
     let w : ℕ = p % sim.workers in
-    let place : ℕ = p / sim.workers in
-    let q : ℕ = process_at sim w place in
-    let d = locally-done world w (execute sim w place) done in
-    let a = at_process-done (execute_process sim q w d.part.serial) place d.part d.new d.takes in
+    let index : ℕ = p / sim.workers in
+    let q : ℕ = process_at sim w index in
+    let d = locally-done world w (execute sim w index) done in
+    let a = at_process-done (execute_process sim q w d.part.serial) index d.part d.new d.takes in
     let x = execute-done sim q w d.part.serial a.process a.effect a.process.pending refl a.takes in
     let fired = sim.fire q (triple_after sim q (a.process.done ++ a.process.past)) (unstamped x.least.event) in
     let entry : Entry P = record { event = x.least.event; sent = stamped w d.part.serial fired.sends } in
@@ -152,7 +152,7 @@ execute-letters {P = P} sim world p done =
     (execute-balance sim q w d.part.serial a.process x.least x.rest x.is) in (
       entry,
       λ f.
-          (let b = process-letters world w place (execute sim w place) d _ a come (signed Plus entry.event ∷ []) (entry ∷ []) fewer balance f in
+          (let b = process-letters world w index (execute sim w index) d _ a come (signed Plus entry.event ∷ []) (entry ∷ []) fewer balance f in
           let g = sum_by-single (letter_weight f) (signed Plus entry.event) in
           let m = ap (λ (e : ProcessEffect P). sum_by (letter_weight f) e.letters) x.does in
           let n = signed-sum f Plus entry.sent in
@@ -164,9 +164,9 @@ undo-letters : {S P : Type 0} (sim : Simulation S P) (world : World P) (p : ℕ)
 unfolding next effect_of_undo
 undo-letters {P = P} sim world p done =
     let w : ℕ = p % sim.workers in
-    let place : ℕ = p / sim.workers in
-    let d = locally-done world w (undo place) done in
-    let a = at_process-done undo_process place d.part d.new d.takes in
+    let index : ℕ = p / sim.workers in
+    let d = locally-done world w (undo index) done in
+    let a = at_process-done undo_process index d.part d.new d.takes in
     let x = undo-done a.process a.effect a.takes in
     let gone : List (Letter P) = [] in
     let more : List (Entry P) = [] in
@@ -175,7 +175,7 @@ undo-letters {P = P} sim world p done =
     (undo-balance a.process x.last x.is) in (
       x.last,
       λ f.
-          (let b = process-letters world w place (undo place) d _ a (signed Plus x.last.event ∷ []) gone more (x.last ∷ []) balance f in
+          (let b = process-letters world w index (undo index) d _ a (signed Plus x.last.event ∷ []) gone more (x.last ∷ []) balance f in
           let g = sum_by-single (letter_weight f) (signed Plus x.last.event) in
           let m = ap (λ (e : ProcessEffect P). sum_by (letter_weight f) e.letters) x.does in
           let n = signed-sum f Minus x.last.sent in
@@ -188,9 +188,9 @@ cancel-letters : {S P : Type 0} (sim : Simulation S P) (world : World P) (p : �
 unfolding next cancel_process
 cancel-letters {P = P} sim world p stamp done =
     let w : ℕ = p % sim.workers in
-    let place : ℕ = p / sim.workers in
-    let d = locally-done world w (cancel place stamp) done in
-    let a = at_process-done (cancel_process stamp) place d.part d.new d.takes in
+    let index : ℕ = p / sim.workers in
+    let d = locally-done world w (cancel index stamp) done in
+    let a = at_process-done (cancel_process stamp) index d.part d.new d.takes in
     let has = if_has (are_opposite (find (has_stamp stamp) a.process.waiting) (find (has_stamp stamp) a.process.pending)) _ a.effect a.takes in
     let both = opposite-are (find (has_stamp stamp) a.process.waiting) (find (has_stamp stamp) a.process.pending) has.0 in
     let come : List (Letter P) = [] in
@@ -208,7 +208,7 @@ cancel-letters {P = P} sim world p stamp done =
       plus_stamp,
       λ i. record { key = keys i; stamp = stamps i },
       λ f.
-          (let b = process-letters world w place (cancel place stamp) d _ a come gone more more balance f in
+          (let b = process-letters world w index (cancel index stamp) d _ a come gone more more balance f in
           let g = sum_by-cons (letter_weight f) (signed Minus both.minus.event) (signed Plus both.plus.event ∷ []) in
           let h = sum_by-single (letter_weight f) (signed Plus both.plus.event) in
           let m = ap (λ (e : ProcessEffect P). sum_by (letter_weight f) e.letters) has.1 in
@@ -229,11 +229,11 @@ deliver-balance : {S P : Type 0} (sim : Simulation S P) (w : ℕ) (old part new 
     PartBalance old new [] [] [] []
 unfolding accept_process
 deliver-balance {P = P} sim w old part new letter leaves e =
-    let place : ℕ = letter.event.dest / sim.workers in
-    let a = at_process-done (accept_process letter) place part new e in
+    let index : ℕ = letter.event.dest / sim.workers in
+    let a = at_process-done (accept_process letter) index part new e in
     let free = unless_has (holds entry_rank a.process.pending a.process.waiting a.process.past letter.sign letter.event.rank) _ a.effect a.takes in
-    subst (λ n. PartBalance old n [] [] [] []) (sym (a.gives ∙ ap (with_effect part place) free.1))
-    (takes-balance sim w place old part letter a.process leaves a.at)
+    subst (λ n. PartBalance old n [] [] [] []) (sym (a.gives ∙ ap (with_effect part index) free.1))
+    (takes-balance sim w index old part letter a.process leaves a.at)
 
 home-balance : {S P : Type 0} (sim : Simulation S P) (w : ℕ) (part new : Part P) → home sim w part ≡ Some new → PartBalance part new [] [] [] []
 home-balance {P = P} sim w part new e =

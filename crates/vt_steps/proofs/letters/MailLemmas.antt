@@ -27,8 +27,8 @@ leaves-same_mail sim w old new letter (homes is e) = record { sent = ap (λ p. p
 leaves-same_mail sim w old new letter (arrives i mail is same e) = record { sent = ap (λ p. p.sent) e; got = ap (λ p. p.got) e }
 
 local-same_mail : {S P : Type 0} (sim : Simulation S P) (w : ℕ) (old new : Part P) → Local sim w old new → SameMail old new
-local-same_mail sim w old new (acts place process effect at act e) = record { sent = ap (λ p. p.sent) e; got = ap (λ p. p.got) e }
-local-same_mail sim w old new (takes part letter place process leaves at is free e) =
+local-same_mail sim w old new (acts index process effect at act e) = record { sent = ap (λ p. p.sent) e; got = ap (λ p. p.got) e }
+local-same_mail sim w old new (takes part letter index process leaves at is free e) =
     let same = leaves-same_mail sim w old part letter leaves in
     record { sent = ap (λ p. p.sent) e ∙ same.sent; got = ap (λ p. p.got) e ∙ same.got }
 

@@ -11,7 +11,7 @@ use Rattle.vt_model.specs.promise.Simulation.{Simulation}
 use Rattle.vt_steps.specs.inside.Copies.{letter_weight, mail_weight, process_sum, part_sum, letter_sum, process_entries, part_entries, entry_sum, serial_at}
 use Rattle.vt_steps.specs.promise.Letters.{signed}
 use Rattle.vt_steps.specs.promise.World.{Entry, LogicalProcess, opening_part, opening_world, process_count, start_events, start_sends}
-use Rattle.vt_steps.proofs.lists.Places.{get-map_range}
+use Rattle.vt_steps.proofs.lists.Indices.{get-map_range}
 use Rattle.vt_steps.proofs.lists.Sums.{sum_by-map, sum_by-same, sum_by-zero}
 
 module _ {S P : Type 0} (sim : Simulation S P) (serial : ℕ) where

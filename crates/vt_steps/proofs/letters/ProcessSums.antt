@@ -1,4 +1,4 @@
--- Sums over all processes, worker by worker and place by place; and the rows of the sequential run as such a sum.
+-- Sums over all processes, worker by worker and index by index; and the rows of the sequential run as such a sum.
 use Rattle.std.proofs.Common.{◌≡◌, ℕ, zero, suc, ◌+◌, ◌/◌, ◌%◌, ◌≤◌, ◌<◌, inl, inr, true, false, cond, List, [], ◌∷◌, ◌++◌, length, Some, None, slice_get, slice_set, nat_eq, refl, sym, subst, ◌∙◌, ap, arith}
 use Rattle.std.specs.List.{sum_by, range_with_len}
 use Rattle.std.proofs.lemmas.Bool.{eqb-true, eq-eqb, cases_Bool}
@@ -15,7 +15,7 @@ use Rattle.vt_steps.specs.promise.World.{process_at, process_count}
 use Rattle.std.proofs.Math.Nat.{mod-lt}
 use Rattle.vt_key.specs.promise.Lists.{Among}
 use Rattle.vt_steps.proofs.lists.Sums.{sum_by-same, sum_by-zero}
-use Rattle.vt_steps.proofs.steps.Shape.{own-place, worker-of_place, place-of_place, known-place}
+use Rattle.vt_steps.proofs.steps.Shape.{own-index, worker-of_index, index-of_index, known-index}
 
 -- ---- sums over a range of numbers
 
@@ -58,132 +58,132 @@ sum_by-range_one x j a (suc n) low high =
           omega arith
     ]
 
--- ---- sums by place
+-- ---- sums by index
 
--- the sum of what the elements of a list weigh at their places, counted from a first one on
-abbrev pub sum_by_place : {X : Type 0} → (ℕ → X → ℕ) → ℕ → List X → ℕ
-sum_by_place g i [] = 0
-sum_by_place g i (x ∷ xs) = g i x + sum_by_place g (i + 1) xs
+-- the sum of what the elements of a list weigh at their indices, counted from a first one on
+abbrev pub sum_by_index : {X : Type 0} → (ℕ → X → ℕ) → ℕ → List X → ℕ
+sum_by_index g i [] = 0
+sum_by_index g i (x ∷ xs) = g i x + sum_by_index g (i + 1) xs
 
--- one gives way to another, of a list counted from a first place on
-sum_by_place-put_from : {X : Type 0} (g : ℕ → X → ℕ) (i : ℕ) (xs : List X) (j : ℕ) (x y : X) → slice_get xs j ≡ Some x →
-    sum_by_place g i (slice_set xs j y) + g (i + j) x ≡ sum_by_place g i xs + g (i + j) y
-sum_by_place-put_from g i [] j x y e = absurd (let h : None ≡ Some x = e in cc)
-sum_by_place-put_from g i (z ∷ zs) zero x y e =
+-- one gives way to another, of a list counted from a first index on
+sum_by_index-put_from : {X : Type 0} (g : ℕ → X → ℕ) (i : ℕ) (xs : List X) (j : ℕ) (x y : X) → slice_get xs j ≡ Some x →
+    sum_by_index g i (slice_set xs j y) + g (i + j) x ≡ sum_by_index g i xs + g (i + j) y
+sum_by_index-put_from g i [] j x y e = absurd (let h : None ≡ Some x = e in cc)
+sum_by_index-put_from g i (z ∷ zs) zero x y e =
     let same : z ≡ x = cc in
     let here : i + 0 ≡ i = omega arith in
     let a : g (i + 0) x ≡ g i z = ap (λ k. g k x) here ∙ ap (g i) (sym same) in
     let b : g (i + 0) y ≡ g i y = ap (λ k. g k y) here in
     omega arith
-sum_by_place-put_from g i (z ∷ zs) (suc j) x y e =
+sum_by_index-put_from g i (z ∷ zs) (suc j) x y e =
     let there : (i + 1) + j ≡ i + suc j = omega arith in
-    let ih = sum_by_place-put_from g (i + 1) zs j x y e in
+    let ih = sum_by_index-put_from g (i + 1) zs j x y e in
     let a : g ((i + 1) + j) x ≡ g (i + suc j) x = ap (λ k. g k x) there in
     let b : g ((i + 1) + j) y ≡ g (i + suc j) y = ap (λ k. g k y) there in
     omega arith
 
 -- one gives way to another
-pub sum_by_place-put : {X : Type 0} (g : ℕ → X → ℕ) (xs : List X) (j : ℕ) (x y : X) → slice_get xs j ≡ Some x →
-    sum_by_place g 0 (slice_set xs j y) + g j x ≡ sum_by_place g 0 xs + g j y
-sum_by_place-put g xs j x y e = subst (λ k. sum_by_place g 0 (slice_set xs j y) + g k x ≡ sum_by_place g 0 xs + g k y) (let z : 0 + j ≡ j = omega arith in z) (sum_by_place-put_from g 0 xs j x y e)
+pub sum_by_index-put : {X : Type 0} (g : ℕ → X → ℕ) (xs : List X) (j : ℕ) (x y : X) → slice_get xs j ≡ Some x →
+    sum_by_index g 0 (slice_set xs j y) + g j x ≡ sum_by_index g 0 xs + g j y
+sum_by_index-put g xs j x y e = subst (λ k. sum_by_index g 0 (slice_set xs j y) + g k x ≡ sum_by_index g 0 xs + g k y) (let z : 0 + j ≡ j = omega arith in z) (sum_by_index-put_from g 0 xs j x y e)
 
--- what depends on the places alone, from a first one on
-sum_by_place-range_from : {X : Type 0} (g : ℕ → X → ℕ) (h : ℕ → ℕ) (a : ℕ) (xs : List X) → ((i : ℕ) (x : X) → slice_get xs i ≡ Some x → g (a + i) x ≡ h (a + i)) →
-    sum_by_place g a xs ≡ sum_by h (range_with_len a (length xs))
-sum_by_place-range_from g h a [] same = refl
-sum_by_place-range_from g h a (x ∷ xs) same =
+-- what depends on the indices alone, from a first one on
+sum_by_index-range_from : {X : Type 0} (g : ℕ → X → ℕ) (h : ℕ → ℕ) (a : ℕ) (xs : List X) → ((i : ℕ) (x : X) → slice_get xs i ≡ Some x → g (a + i) x ≡ h (a + i)) →
+    sum_by_index g a xs ≡ sum_by h (range_with_len a (length xs))
+sum_by_index-range_from g h a [] same = refl
+sum_by_index-range_from g h a (x ∷ xs) same =
     let first : g a x ≡ h a = subst (λ k. g k x ≡ h k) (let z : a + 0 ≡ a = omega arith in z) (same 0 x refl) in
-    let ih = sum_by_place-range_from g h (a + 1) xs (λ i y at. subst (λ k. g k y ≡ h k) (let z : a + suc i ≡ (a + 1) + i = omega arith in z) (same (suc i) y at)) in
+    let ih = sum_by_index-range_from g h (a + 1) xs (λ i y at. subst (λ k. g k y ≡ h k) (let z : a + suc i ≡ (a + 1) + i = omega arith in z) (same (suc i) y at)) in
     let c = sum_by-cons h a (range_with_len (a + 1) (length xs)) in
     omega arith
 
--- what depends on the places alone is a sum over a range of numbers
-pub sum_by_place-range : {X : Type 0} (g : ℕ → X → ℕ) (h : ℕ → ℕ) (xs : List X) → ((i : ℕ) (x : X) → slice_get xs i ≡ Some x → g i x ≡ h i) →
-    sum_by_place g 0 xs ≡ sum_by h (range_with_len 0 (length xs))
-sum_by_place-range g h xs same = sum_by_place-range_from g h 0 xs (λ i x at. subst (λ k. g k x ≡ h k) (let z : i ≡ 0 + i = omega arith in z) (same i x at))
+-- what depends on the indices alone is a sum over a range of numbers
+pub sum_by_index-range : {X : Type 0} (g : ℕ → X → ℕ) (h : ℕ → ℕ) (xs : List X) → ((i : ℕ) (x : X) → slice_get xs i ≡ Some x → g i x ≡ h i) →
+    sum_by_index g 0 xs ≡ sum_by h (range_with_len 0 (length xs))
+sum_by_index-range g h xs same = sum_by_index-range_from g h 0 xs (λ i x at. subst (λ k. g k x ≡ h k) (let z : i ≡ 0 + i = omega arith in z) (same i x at))
 
--- what is at most what depends on the places alone, from a first one on
-sum_by_place-bound_from : {X : Type 0} (g : ℕ → X → ℕ) (h : ℕ → ℕ) (a : ℕ) (xs : List X) → ((i : ℕ) (x : X) → slice_get xs i ≡ Some x → g (a + i) x ≤ h (a + i)) →
-    sum_by_place g a xs ≤ sum_by h (range_with_len a (length xs))
-sum_by_place-bound_from g h a [] low = omega arith
-sum_by_place-bound_from g h a (x ∷ xs) low =
+-- what is at most what depends on the indices alone, from a first one on
+sum_by_index-bound_from : {X : Type 0} (g : ℕ → X → ℕ) (h : ℕ → ℕ) (a : ℕ) (xs : List X) → ((i : ℕ) (x : X) → slice_get xs i ≡ Some x → g (a + i) x ≤ h (a + i)) →
+    sum_by_index g a xs ≤ sum_by h (range_with_len a (length xs))
+sum_by_index-bound_from g h a [] low = omega arith
+sum_by_index-bound_from g h a (x ∷ xs) low =
     let first : g a x ≤ h a = subst (λ k. g k x ≤ h k) (let z : a + 0 ≡ a = omega arith in z) (low 0 x refl) in
-    let ih = sum_by_place-bound_from g h (a + 1) xs (λ i y at. subst (λ k. g k y ≤ h k) (let z : a + suc i ≡ (a + 1) + i = omega arith in z) (low (suc i) y at)) in
+    let ih = sum_by_index-bound_from g h (a + 1) xs (λ i y at. subst (λ k. g k y ≤ h k) (let z : a + suc i ≡ (a + 1) + i = omega arith in z) (low (suc i) y at)) in
     let c = sum_by-cons h a (range_with_len (a + 1) (length xs)) in
     omega arith
 
--- what is at most what depends on the places alone is at most a sum over a range of numbers
-pub sum_by_place-bound : {X : Type 0} (g : ℕ → X → ℕ) (h : ℕ → ℕ) (xs : List X) → ((i : ℕ) (x : X) → slice_get xs i ≡ Some x → g i x ≤ h i) →
-    sum_by_place g 0 xs ≤ sum_by h (range_with_len 0 (length xs))
-sum_by_place-bound g h xs low = sum_by_place-bound_from g h 0 xs (λ i x at. subst (λ k. g k x ≤ h k) (let z : i ≡ 0 + i = omega arith in z) (low i x at))
+-- what is at most what depends on the indices alone is at most a sum over a range of numbers
+pub sum_by_index-bound : {X : Type 0} (g : ℕ → X → ℕ) (h : ℕ → ℕ) (xs : List X) → ((i : ℕ) (x : X) → slice_get xs i ≡ Some x → g i x ≤ h i) →
+    sum_by_index g 0 xs ≤ sum_by h (range_with_len 0 (length xs))
+sum_by_index-bound g h xs low = sum_by_index-bound_from g h 0 xs (λ i x at. subst (λ k. g k x ≤ h k) (let z : i ≡ 0 + i = omega arith in z) (low i x at))
 
 -- ---- sums over all processes
 
 module _ {S P : Type 0} (sim : Simulation S P) where
   -- the sum over the processes of a worker
-  abbrev pub over_places : (ℕ → ℕ) → ℕ → ℕ
-  over_places h w = sum_by (λ place. h (process_at sim w place)) (range_with_len 0 (process_count sim w))
+  abbrev pub over_indices : (ℕ → ℕ) → ℕ → ℕ
+  over_indices h w = sum_by (λ index. h (process_at sim w index)) (range_with_len 0 (process_count sim w))
 
   -- the sum over all processes
   abbrev pub over_processes : (ℕ → ℕ) → ℕ
-  over_processes h = sum_by (over_places h) (range_with_len 0 sim.workers)
+  over_processes h = sum_by (over_indices h) (range_with_len 0 sim.workers)
 
   -- sums over all processes add up
   over_processes-plus : (f g : ℕ → ℕ) → over_processes (λ p. f p + g p) ≡ over_processes f + over_processes g
   over_processes-plus f g =
-      sum_by-range_same (over_places (λ p. f p + g p)) (λ w. over_places f w + over_places g w) 0 sim.workers
-      (λ w low high. sum_by-plus (λ place. f (process_at sim w place)) (λ place. g (process_at sim w place)) (range_with_len 0 (process_count sim w)))
-      ∙ sum_by-plus (over_places f) (over_places g) (range_with_len 0 sim.workers)
+      sum_by-range_same (over_indices (λ p. f p + g p)) (λ w. over_indices f w + over_indices g w) 0 sim.workers
+      (λ w low high. sum_by-plus (λ index. f (process_at sim w index)) (λ index. g (process_at sim w index)) (range_with_len 0 (process_count sim w)))
+      ∙ sum_by-plus (over_indices f) (over_indices g) (range_with_len 0 sim.workers)
 
   -- what is the same for each process has the same sum
   over_processes-same : (f g : ℕ → ℕ) → ((p : ℕ) → f p ≡ g p) → over_processes f ≡ over_processes g
   over_processes-same f g same =
-      sum_by-same (over_places f) (over_places g)
-      (λ w. sum_by-same (λ place. f (process_at sim w place)) (λ place. g (process_at sim w place)) (λ place. same (process_at sim w place)) (range_with_len 0 (process_count sim w))) (range_with_len 0 sim.workers)
+      sum_by-same (over_indices f) (over_indices g)
+      (λ w. sum_by-same (λ index. f (process_at sim w index)) (λ index. g (process_at sim w index)) (λ index. same (process_at sim w index)) (range_with_len 0 (process_count sim w))) (range_with_len 0 sim.workers)
 
   -- where no process weighs anything
   over_processes-none : over_processes (λ p. 0) ≡ 0
   over_processes-none =
-      sum_by-range_same (over_places (λ p. 0)) (λ w. 0) 0 sim.workers (λ w low high. sum_by-zero (range_with_len 0 (process_count sim w))) ∙ sum_by-zero (range_with_len 0 sim.workers)
+      sum_by-range_same (over_indices (λ p. 0)) (λ w. 0) 0 sim.workers (λ w low high. sum_by-zero (range_with_len 0 (process_count sim w))) ∙ sum_by-zero (range_with_len 0 sim.workers)
 
-  -- a process of a worker is at a place if it is its own place
-  by-place : (p w place : ℕ) → p % sim.workers ≡ w → w < sim.workers → nat_eq p (process_at sim w place) ≡ nat_eq (p / sim.workers) place
-  by-place p w place at within = elim (cases_Bool (nat_eq p (process_at sim w place))) [
+  -- a process of a worker is at an index if it is its own index
+  by-index : (p w index : ℕ) → p % sim.workers ≡ w → w < sim.workers → nat_eq p (process_at sim w index) ≡ nat_eq (p / sim.workers) index
+  by-index p w index at within = elim (cases_Bool (nat_eq p (process_at sim w index))) [
     | inl is ↦
-        let own : p / sim.workers ≡ place = ap (λ q. q / sim.workers) (eqb-true p (process_at sim w place) is) ∙ place-of_place sim w place within in
-        is ∙ sym (eq-eqb (p / sim.workers) place own)
-    | inr is ↦ elim (cases_Bool (nat_eq (p / sim.workers) place)) [
+        let own : p / sim.workers ≡ index = ap (λ q. q / sim.workers) (eqb-true p (process_at sim w index) is) ∙ index-of_index sim w index within in
+        is ∙ sym (eq-eqb (p / sim.workers) index own)
+    | inr is ↦ elim (cases_Bool (nat_eq (p / sim.workers) index)) [
       | inl also ↦
-          let there : p ≡ process_at sim w place = sym (own-place sim p) ∙ (λ i. process_at sim (at i) (eqb-true (p / sim.workers) place also i)) in
-          absurd (let h : true ≡ false = sym (eq-eqb p (process_at sim w place) there) ∙ is in cc)
+          let there : p ≡ process_at sim w index = sym (own-index sim p) ∙ (λ i. process_at sim (at i) (eqb-true (p / sim.workers) index also i)) in
+          absurd (let h : true ≡ false = sym (eq-eqb p (process_at sim w index) there) ∙ is in cc)
       | inr also ↦ is ∙ sym also
     ]
   ]
 
-  -- a process of another worker is at none of a worker's places
-  not-there : (p w place : ℕ) → nat_eq (p % sim.workers) w ≡ false → w < sim.workers → nat_eq p (process_at sim w place) ≡ false
-  not-there p w place is within = elim (cases_Bool (nat_eq p (process_at sim w place))) [
+  -- a process of another worker is at none of a worker's indices
+  not-there : (p w index : ℕ) → nat_eq (p % sim.workers) w ≡ false → w < sim.workers → nat_eq p (process_at sim w index) ≡ false
+  not-there p w index is within = elim (cases_Bool (nat_eq p (process_at sim w index))) [
     | inl at ↦
-        let own : p % sim.workers ≡ w = ap (λ q. q % sim.workers) (eqb-true p (process_at sim w place) at) ∙ worker-of_place sim w place within in
+        let own : p % sim.workers ≡ w = ap (λ q. q % sim.workers) (eqb-true p (process_at sim w index) at) ∙ worker-of_index sim w index within in
         absurd (let h : true ≡ false = sym (eq-eqb (p % sim.workers) w own) ∙ is in cc)
     | inr at ↦ at
   ]
 
-  -- the place of one process, among the places of a worker
-  one-at-worker : (x p w : ℕ) → 1 ≤ sim.workers → p < sim.lps → w < sim.workers → over_places (λ q. cond (nat_eq p q) x 0) w ≡ cond (nat_eq (p % sim.workers) w) x 0
+  -- the index of one process, among the indices of a worker
+  one-at-worker : (x p w : ℕ) → 1 ≤ sim.workers → p < sim.lps → w < sim.workers → over_indices (λ q. cond (nat_eq p q) x 0) w ≡ cond (nat_eq (p % sim.workers) w) x 0
   one-at-worker x p w some known within = elim (cases_Bool (nat_eq (p % sim.workers) w)) [
     | inl is ↦
         let at : p % sim.workers ≡ w = eqb-true (p % sim.workers) w is in
-        let fits = known-place sim p some known in
+        let fits = known-index sim p some known in
         let count = ap (process_count sim) at in
-        let same : over_places (λ q. cond (nat_eq p q) x 0) w ≡ sum_by (λ place. cond (nat_eq (p / sim.workers) place) x 0) (range_with_len 0 (process_count sim w)) =
-        sum_by-range_same (λ place. cond (nat_eq p (process_at sim w place)) x 0) (λ place. cond (nat_eq (p / sim.workers) place) x 0) 0 (process_count sim w)
-        (λ place low high. ap (λ b. cond b x 0) (by-place p w place at within)) in
+        let same : over_indices (λ q. cond (nat_eq p q) x 0) w ≡ sum_by (λ index. cond (nat_eq (p / sim.workers) index) x 0) (range_with_len 0 (process_count sim w)) =
+        sum_by-range_same (λ index. cond (nat_eq p (process_at sim w index)) x 0) (λ index. cond (nat_eq (p / sim.workers) index) x 0) 0 (process_count sim w)
+        (λ index low high. ap (λ b. cond b x 0) (by-index p w index at within)) in
         let one = sum_by-range_one x (p / sim.workers) 0 (process_count sim w) (omega arith) (omega arith) in
         same ∙ one ∙ sym (ap (λ b. cond b x 0) is)
     | inr is ↦
-        let none = sum_by-range_same (λ place. cond (nat_eq p (process_at sim w place)) x 0) (λ place. 0) 0 (process_count sim w)
-        (λ place low high. ap (λ b. cond b x 0) (not-there p w place is within)) in
+        let none = sum_by-range_same (λ index. cond (nat_eq p (process_at sim w index)) x 0) (λ index. 0) 0 (process_count sim w)
+        (λ index low high. ap (λ b. cond b x 0) (not-there p w index is within)) in
         none ∙ sum_by-zero (range_with_len 0 (process_count sim w)) ∙ sym (ap (λ b. cond b x 0) is)
   ]
 
@@ -191,7 +191,7 @@ module _ {S P : Type 0} (sim : Simulation S P) where
   over_processes-one : (x p : ℕ) → 1 ≤ sim.workers → p < sim.lps → over_processes (λ q. cond (nat_eq p q) x 0) ≡ x
   over_processes-one x p some known =
       let within = mod-lt p some in
-      sum_by-range_same (over_places (λ q. cond (nat_eq p q) x 0)) (λ w. cond (nat_eq (p % sim.workers) w) x 0) 0 sim.workers
+      sum_by-range_same (over_indices (λ q. cond (nat_eq p q) x 0)) (λ w. cond (nat_eq (p % sim.workers) w) x 0) 0 sim.workers
       (λ w low high. one-at-worker x p w some known (omega arith))
       ∙ sum_by-range_one x (p % sim.workers) 0 sim.workers (omega arith) (omega arith)
 

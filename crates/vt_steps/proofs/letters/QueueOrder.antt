@@ -25,7 +25,7 @@ use Rattle.vt_steps.specs.promise.Next.{reached}
 use Rattle.vt_steps.specs.promise.PartSteps.{is_below, part_after_commit, part_after_cut, part_after_fetch, part_after_send, process_after_commit, with_effect}
 use Rattle.vt_steps.specs.promise.ProcessSteps.{ProcessEffect, effect_of_execute, effect_of_undo, holds, with_letter}
 use Rattle.vt_steps.specs.promise.World.{Entry, LogicalProcess, Part, World, entry_rank, opening_part, opening_world, process_at, process_count, triple_after}
-use Rattle.vt_steps.proofs.lists.Places.{all-put, get-map, get-replicate}
+use Rattle.vt_steps.proofs.lists.Indices.{all-put, get-map, get-replicate}
 use Rattle.vt_steps.proofs.steps.Changes.{Act, executes, undoes, cancels, Leaves, homes, arrives, Local, acts, takes, Change, stays, local, sends, fetches, cuts, reports, commits, closes, run_keeps}
 
 -- the entries have different ranks
@@ -143,26 +143,26 @@ module _ {P : Type 0} where
 
 -- the queues of each process of the part rise
 pub IsQueuedPart : {P : Type 0} → Part P → Type 0
-IsQueuedPart {P} part = (place : ℕ) (process : LogicalProcess P) → slice_get part.processes place ≡ Some process → IsQueued process
+IsQueuedPart {P} part = (index : ℕ) (process : LogicalProcess P) → slice_get part.processes index ≡ Some process → IsQueued process
 
 module _ {P : Type 0} where
   -- a part with the same processes
   same-queued : (old new : Part P) → new.processes ≡ old.processes → IsQueuedPart old → IsQueuedPart new
   unfolding IsQueuedPart
-  same-queued old new same h place process at = h place process (sym (ap (λ ps. slice_get ps place) same) ∙ at)
+  same-queued old new same h index process at = h index process (sym (ap (λ ps. slice_get ps index) same) ∙ at)
 
   -- a process gives way to another
-  effect-queued : (part : Part P) (place : ℕ) (process : LogicalProcess P) (effect : ProcessEffect P) → slice_get part.processes place ≡ Some process →
-      (IsQueued process → IsQueued effect.process) → IsQueuedPart part → IsQueuedPart (with_effect part place effect)
+  effect-queued : (part : Part P) (index : ℕ) (process : LogicalProcess P) (effect : ProcessEffect P) → slice_get part.processes index ≡ Some process →
+      (IsQueued process → IsQueued effect.process) → IsQueuedPart part → IsQueuedPart (with_effect part index effect)
   unfolding IsQueuedPart
-  effect-queued part place process effect at f h = all-put (λ j q. IsQueued q) part.processes place process effect.process at h f
+  effect-queued part index process effect at f h = all-put (λ j q. IsQueued q) part.processes index process effect.process at h f
 
   -- a part commits
   part-commits : (part : Part P) → IsQueuedPart part → IsQueuedPart (part_after_commit part)
   unfolding IsQueuedPart part_after_commit
-  part-commits part h place process at =
-      let from = get-map (process_after_commit part.floor) part.processes place process at in
-      let was = h place from.0 from.1 in
+  part-commits part h index process at =
+      let from = get-map (process_after_commit part.floor) part.processes index process at in
+      let was = h index from.0 from.1 in
       let n = prefix_len (is_below part.floor) from.0.past in
       subst IsQueued (sym from.2) (record {
         queues = record { pending = was.queues.pending; waiting = was.queues.waiting };
@@ -179,11 +179,11 @@ module _ {S P : Type 0} (sim : Simulation S P) where
 
   -- a local step
   local-queued : (w : ℕ) (old new : Part P) → Local sim w old new → IsQueuedPart old → IsQueuedPart new
-  local-queued w old new (acts place process effect at act e) h =
-      subst IsQueuedPart (sym e) (effect-queued old place process effect at (act-queued sim (process_at sim w place) w old.serial process effect act) h)
-  local-queued w old new (takes part letter place process leaves at place_is free e) h =
+  local-queued w old new (acts index process effect at act e) h =
+      subst IsQueuedPart (sym e) (effect-queued old index process effect at (act-queued sim (process_at sim w index) w old.serial process effect act) h)
+  local-queued w old new (takes part letter index process leaves at index_is free e) h =
       let effect : ProcessEffect P = record { process = with_letter process letter.sign letter; letters = []; serials = 0 } in
-      subst IsQueuedPart (sym e) (effect-queued part place process effect at (with_letter-queued process letter.sign letter free) (leaves-queued w old part letter leaves h))
+      subst IsQueuedPart (sym e) (effect-queued part index process effect at (with_letter-queued process letter.sign letter free) (leaves-queued w old part letter leaves h))
 
   -- the queues of each process of the world rise
   abbrev IsQueuedWorld : World P → Type 0
@@ -209,10 +209,10 @@ module _ {S P : Type 0} (sim : Simulation S P) where
   -- at the opening no letter has come
   opening-queued : (serial : ℕ) → IsQueuedWorld (opening_world sim serial)
   unfolding opening_world IsQueuedPart
-  opening-queued serial w part at place process there =
+  opening-queued serial w part at index process there =
       let empty : LogicalProcess P = record { done = []; past = []; pending = []; waiting = [] } in
       let from = get-map (opening_part sim serial) (range_with_len 0 sim.workers) w part at in
-      let is = get-replicate (process_count sim from.0) place empty process (sym (ap (λ z. slice_get z.processes place) from.2) ∙ there) in
+      let is = get-replicate (process_count sim from.0) index empty process (sym (ap (λ z. slice_get z.processes index) from.2) ∙ there) in
       subst IsQueued (sym is) (record { queues = record { pending = tt; waiting = tt }; past = tt; apart = λ letter e m n same. m })
 
   -- so the queues of each reached world rise

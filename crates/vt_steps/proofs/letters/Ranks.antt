@@ -23,7 +23,7 @@ use Rattle.vt_steps.specs.promise.PartSteps.{is_below, part_after_commit, part_a
 use Rattle.vt_steps.specs.promise.ProcessSteps.{ProcessEffect, effect_of_execute, effect_of_undo, may_follow, with_letter}
 use Rattle.vt_steps.specs.promise.World.{Entry, LogicalProcess, Part, World, all_letters, least, letters_in, opening_part, opening_world, process_at, process_count, triple_after, entry_rank}
 use Rattle.vt_key.proofs.ListLemmas.{among-append, among-flat_map, among-left, among-right, every-among, every-append, every-weaker, get-among, no_last, rising-across, rising-append, rising-left}
-use Rattle.vt_steps.proofs.lists.Places.{all-put, get-map, get-replicate}
+use Rattle.vt_steps.proofs.lists.Indices.{all-put, get-map, get-replicate}
 use Rattle.vt_steps.proofs.steps.Changes.{Act, executes, undoes, cancels, Leaves, homes, arrives, Local, acts, takes, Change, stays, local, sends, fetches, cuts, reports, commits, closes, run_keeps}
 use Rattle.vt_steps.proofs.history.OwnHistories.{history-before_last, history-commit}
 use Rattle.vt_steps.proofs.history.QuietHistories.{DoAllRanksRise, least-at_most}
@@ -119,26 +119,26 @@ act-ordered sim p w serial floor old effect (cancels stamp minus plus waits pend
 
 -- each process of the part is ordered, by the part's floor
 pub IsOrderedPart : {P : Type 0} → Part P → Type 0
-IsOrderedPart {P} part = (place : ℕ) (process : LogicalProcess P) → slice_get part.processes place ≡ Some process → IsOrdered part.floor process
+IsOrderedPart {P} part = (index : ℕ) (process : LogicalProcess P) → slice_get part.processes index ≡ Some process → IsOrdered part.floor process
 
 module _ {P : Type 0} where
   -- a part with the same processes and a floor that has not fallen
   part-raised : (old new : Part P) → new.processes ≡ old.processes → TimeAtMost old.floor new.floor → IsOrderedPart old → IsOrderedPart new
   unfolding IsOrderedPart
-  part-raised old new same up h place process at = ordered-raised old.floor new.floor process up (h place process (sym (ap (λ ps. slice_get ps place) same) ∙ at))
+  part-raised old new same up h index process at = ordered-raised old.floor new.floor process up (h index process (sym (ap (λ ps. slice_get ps index) same) ∙ at))
 
   -- a process gives way to an ordered one
-  effect-ordered : (part : Part P) (place : ℕ) (process : LogicalProcess P) (effect : ProcessEffect P) → slice_get part.processes place ≡ Some process →
-      (IsOrdered part.floor process → IsOrdered part.floor effect.process) → IsOrderedPart part → IsOrderedPart (with_effect part place effect)
+  effect-ordered : (part : Part P) (index : ℕ) (process : LogicalProcess P) (effect : ProcessEffect P) → slice_get part.processes index ≡ Some process →
+      (IsOrdered part.floor process → IsOrdered part.floor effect.process) → IsOrderedPart part → IsOrderedPart (with_effect part index effect)
   unfolding IsOrderedPart
-  effect-ordered part place process effect at f h = all-put (λ j q. IsOrdered part.floor q) part.processes place process effect.process at h f
+  effect-ordered part index process effect at f h = all-put (λ j q. IsOrdered part.floor q) part.processes index process effect.process at h f
 
   -- a part commits
   part-commits : (part : Part P) → IsOrderedPart part → IsOrderedPart (part_after_commit part)
   unfolding IsOrderedPart part_after_commit
-  part-commits part h place process at =
-      let from = get-map (process_after_commit part.floor) part.processes place process at in
-      subst (IsOrdered part.floor) (sym from.2) (commit-ordered part.floor from.0 (h place from.0 from.1))
+  part-commits part h index process at =
+      let from = get-map (process_after_commit part.floor) part.processes index process at in
+      subst (IsOrdered part.floor) (sym from.2) (commit-ordered part.floor from.0 (h index from.0 from.1))
 
 module _ {S P : Type 0} (sim : Simulation S P) where
   -- a letter leaves
@@ -149,14 +149,14 @@ module _ {S P : Type 0} (sim : Simulation S P) where
 
   -- a local step, where no letter of the part is before its floor
   local-ordered : (w : ℕ) (old new : Part P) → Local sim w old new → ((letter : Letter P) → Among letter (letters_in old) → TimeAtMost old.floor (letter_time letter)) → IsOrderedPart old → IsOrderedPart new
-  local-ordered w old new (acts place process effect at act e) late h =
+  local-ordered w old new (acts index process effect at act e) late h =
       let pending : (letter : Letter P) → Among letter process.pending → TimeAtMost old.floor (letter_time letter) =
       λ letter m. late letter
-      (among-right letter _ _ (among-flat_map (λ (q : LogicalProcess P). q.pending ++ q.waiting) letter process old.processes (get-among old.processes place process at) (among-left letter process.pending process.waiting m))) in
-      subst IsOrderedPart (sym e) (effect-ordered old place process effect at (act-ordered sim (process_at sim w place) w old.serial old.floor process effect act pending) h)
-  local-ordered w old new (takes part letter place process leaves at place_is free e) late h =
+      (among-right letter _ _ (among-flat_map (λ (q : LogicalProcess P). q.pending ++ q.waiting) letter process old.processes (get-among old.processes index process at) (among-left letter process.pending process.waiting m))) in
+      subst IsOrderedPart (sym e) (effect-ordered old index process effect at (act-ordered sim (process_at sim w index) w old.serial old.floor process effect act pending) h)
+  local-ordered w old new (takes part letter index process leaves at index_is free e) late h =
       let effect : ProcessEffect P = record { process = with_letter process letter.sign letter; letters = []; serials = 0 } in
-      subst IsOrderedPart (sym e) (effect-ordered part place process effect at (with_letter-ordered part.floor process letter.sign letter) (leaves-ordered w old part letter leaves h))
+      subst IsOrderedPart (sym e) (effect-ordered part index process effect at (with_letter-ordered part.floor process letter.sign letter) (leaves-ordered w old part letter leaves h))
 
   -- each part of the world is ordered
   abbrev pub IsOrderedWorld : World P → Type 0
@@ -194,10 +194,10 @@ module _ {S P : Type 0} (sim : Simulation S P) where
   -- at the opening nothing is executed
   opening-ordered : (serial : ℕ) → IsOrderedWorld (opening_world sim serial)
   unfolding opening_world IsOrderedPart
-  opening-ordered serial w part at place process there =
+  opening-ordered serial w part at index process there =
       let empty : LogicalProcess P = record { done = []; past = []; pending = []; waiting = [] } in
       let from = get-map (opening_part sim serial) (range_with_len 0 sim.workers) w part at in
-      let is = get-replicate (process_count sim from.0) place empty process (sym (ap (λ z. slice_get z.processes place) from.2) ∙ there) in
+      let is = get-replicate (process_count sim from.0) index empty process (sym (ap (λ z. slice_get z.processes index) from.2) ∙ there) in
       subst (IsOrdered part.floor) (sym is) (record { rising = tt; committed = tt })
 
   -- so each reached world is ordered, where the simulation is lawful
@@ -216,20 +216,20 @@ module _ {S P : Type 0} (sim : Simulation S P) where
   reached-ranks lawful serial steps p process is = (reached-ordered lawful serial steps (p % sim.workers) is.0 is.1 (p / sim.workers) process is.2).rising
 
   -- what each process has committed is before its worker's floor
-  pub reached-committed : IsLawful sim → (serial : ℕ) (steps : List Step) (w place : ℕ) (part : Part P) (process : LogicalProcess P) → slice_get (reached sim serial steps).parts w ≡ Some part →
-      slice_get part.processes place ≡ Some process → AllByRecursion (λ e. TimeBefore e.event.rank.key.time part.floor) process.done
+  pub reached-committed : IsLawful sim → (serial : ℕ) (steps : List Step) (w index : ℕ) (part : Part P) (process : LogicalProcess P) → slice_get (reached sim serial steps).parts w ≡ Some part →
+      slice_get part.processes index ≡ Some process → AllByRecursion (λ e. TimeBefore e.event.rank.key.time part.floor) process.done
   unfolding IsOrderedPart
-  reached-committed lawful serial steps w place part process at there = (reached-ordered lawful serial steps w part at place process there).committed
+  reached-committed lawful serial steps w index part process at there = (reached-ordered lawful serial steps w part at index process there).committed
 
--- ---- by places, as the claim says it
+-- ---- by indices, as the claim says it
 
--- what stands at a place of a list is one of it
+-- what stands at an index of a list is one of it
 among-at : {X : Type 0} (xs : List X) (j : ℕ) (d : X) → j < length xs → Among (slice_index_or xs j d) xs
 among-at [] j d h = absurd (omega arith)
 among-at (x ∷ xs) zero d h = inl refl
 among-at (x ∷ xs) (suc j) d h = inr (among-at xs j d (omega arith))
 
--- a rising list, by its places and the test of ranks
+-- a rising list, by its indices and the test of ranks
 rising-pairs : {P : Type 0} (xs : List (Entry P)) → IsRisingBy IsEntryBefore xs → AllPairs (λ (a b : Entry P). rank_before a.event.rank b.event.rank ≡ true) xs
 rising-pairs [] h i j d less within = absurd (omega arith)
 rising-pairs (x ∷ xs) h i zero d less within = absurd (omega arith)

@@ -26,7 +26,7 @@ sum_by-put f (z ∷ zs) (suc i) x y e =
     let b = sum_by-cons f z (slice_set zs i y) in
     omega arith
 
--- the element at a place is removed
+-- the element at an index is removed
 pub sum_by-remove : {X : Type 0} (f : X → ℕ) (xs : List X) (i : ℕ) (x : X) → slice_get xs i ≡ Some x → sum_by f (remove xs i) + f x ≡ sum_by f xs
 sum_by-remove f [] i x e = absurd (let h : None ≡ Some x = e in cc)
 sum_by-remove f (y ∷ ys) zero x e =
@@ -138,7 +138,7 @@ sum-among f (y ∷ ys) x m =
     let a = sum_by-cons f y ys in
     elim m [ inl e ↦ (let s : f x ≡ f y = ap f e in omega arith) | inr n ↦ (let ih = sum-among f ys x n in omega arith) ]
 
--- a sum that is not 0 has a part that is not, at a place
+-- a sum that is not 0 has a part that is not, at an index
 pub some-at : {X : Type 0} (f : X → ℕ) (xs : List X) → 1 ≤ sum_by f xs → (i : ℕ) × (x : X) × (slice_get xs i ≡ Some x) × (1 ≤ f x)
 some-at f [] h = elim (let z : sum_by f [] ≡ 0 = refl in let none : ⊥ = omega arith in none) [ ]
 some-at {X} f (x ∷ xs) h =

@@ -21,7 +21,7 @@ use Rattle.vt_steps.proofs.steps.Changes.{if_has, map_has}
 use Rattle.vt_steps.proofs.steps.Outcomes.{done_or_refused-either, unless_closed-either}
 use Rattle.vt_steps.proofs.time.Floors.{reached-times, floor-announced, floor-at}
 use Rattle.vt_steps.proofs.marks.MarkedRuns.{own-keeps}
-use Rattle.vt_steps.proofs.lists.Places.{get-within}
+use Rattle.vt_steps.proofs.lists.Indices.{get-within}
 use Rattle.vt_steps.proofs.book.ReachedBooks.{closed-stays}
 
 module _ {S P : Type 0} (sim : Simulation S P) where

@@ -26,7 +26,7 @@ use Rattle.vt_steps.proofs.time.Flags.{none-set}
 use Rattle.vt_steps.proofs.time.Floors.{reached-times}
 use Rattle.vt_steps.proofs.steps.Locals.{local-changes_one_part}
 use Rattle.vt_steps.proofs.marks.MarkedRuns.{own-keeps}
-use Rattle.vt_steps.proofs.lists.Places.{get-put_other, get-within}
+use Rattle.vt_steps.proofs.lists.Indices.{get-put_other, get-within}
 
 -- ---- what a step does to the board
 

@@ -41,11 +41,11 @@ pub data Leaves {S P : Type 0} (sim : Simulation S P) (w : ℕ) (old new : Part 
 
 -- a local step of worker w: a process acts, or takes a letter
 pub data Local {S P : Type 0} (sim : Simulation S P) (w : ℕ) (old new : Part P) : Type 0 where
-  acts : (place : ℕ) (process : LogicalProcess P) (acted : ProcessEffect P) → slice_get old.processes place ≡ Some process →
-      Act sim (process_at sim w place) w old.serial process acted → new ≡ with_effect old place acted → Local sim w old new
-  takes : (part : Part P) (letter : Letter P) (place : ℕ) (process : LogicalProcess P) → Leaves sim w old part letter →
-      slice_get part.processes place ≡ Some process → place ≡ letter.event.dest / sim.workers → holds entry_rank process.pending process.waiting process.past letter.sign letter.event.rank ≡ false →
-      new ≡ with_effect part place (record { process = with_letter process letter.sign letter; letters = []; serials = 0 }) → Local sim w old new
+  acts : (index : ℕ) (process : LogicalProcess P) (acted : ProcessEffect P) → slice_get old.processes index ≡ Some process →
+      Act sim (process_at sim w index) w old.serial process acted → new ≡ with_effect old index acted → Local sim w old new
+  takes : (part : Part P) (letter : Letter P) (index : ℕ) (process : LogicalProcess P) → Leaves sim w old part letter →
+      slice_get part.processes index ≡ Some process → index ≡ letter.event.dest / sim.workers → holds entry_rank process.pending process.waiting process.past letter.sign letter.event.rank ≡ false →
+      new ≡ with_effect part index (record { process = with_letter process letter.sign letter; letters = []; serials = 0 }) → Local sim w old new
 
 -- the world after a lawful report of w on this board
 abbrev pub with_reported : {S P : Type 0} → Simulation S P → World P → ℕ → Part P → Board → World P
@@ -124,25 +124,25 @@ cancel_acts sim p w serial old stamp new e =
 
 -- ---- at a part
 
--- a step at the process of a place
-pub at_process_acts : {S P : Type 0} (sim : Simulation S P) (w : ℕ) (act : LogicalProcess P → Option (ProcessEffect P)) (place : ℕ) (old new : Part P) →
-    ((process : LogicalProcess P) (acted : ProcessEffect P) → act process ≡ Some acted → Act sim (process_at sim w place) w old.serial process acted) →
-    at_process act place old ≡ Some new → Local sim w old new
-at_process_acts sim w act place old new means e =
-    let has = map_has (with_effect old place) (option_and_then act (slice_get old.processes place)) new e in
-    let at = chain_has act (slice_get old.processes place) has.0 has.1 in
-    acts place at.0 has.0 at.1 (means at.0 has.0 at.2) has.2
+-- a step at the process of an index
+pub at_process_acts : {S P : Type 0} (sim : Simulation S P) (w : ℕ) (act : LogicalProcess P → Option (ProcessEffect P)) (index : ℕ) (old new : Part P) →
+    ((process : LogicalProcess P) (acted : ProcessEffect P) → act process ≡ Some acted → Act sim (process_at sim w index) w old.serial process acted) →
+    at_process act index old ≡ Some new → Local sim w old new
+at_process_acts sim w act index old new means e =
+    let has = map_has (with_effect old index) (option_and_then act (slice_get old.processes index)) new e in
+    let at = chain_has act (slice_get old.processes index) has.0 has.1 in
+    acts index at.0 has.0 at.1 (means at.0 has.0 at.2) has.2
 
 -- a letter goes to its process
 pub deliver_takes : {S P : Type 0} (sim : Simulation S P) (w : ℕ) (old part new : Part P) (letter : Letter P) →
     Leaves sim w old part letter → deliver sim part letter ≡ Some new → Local sim w old new
 unfolding accept_process
 deliver_takes sim w old part new letter leaves e =
-    let place = letter.event.dest / sim.workers in
-    let has = map_has (with_effect part place) (option_and_then (accept_process letter) (slice_get part.processes place)) new e in
-    let at = chain_has (accept_process letter) (slice_get part.processes place) has.0 has.1 in
+    let index = letter.event.dest / sim.workers in
+    let has = map_has (with_effect part index) (option_and_then (accept_process letter) (slice_get part.processes index)) new e in
+    let at = chain_has (accept_process letter) (slice_get part.processes index) has.0 has.1 in
     let free = unless_has (holds entry_rank at.0.pending at.0.waiting at.0.past letter.sign letter.event.rank) _ has.0 at.2 in
-    takes part letter place at.0 leaves at.1 refl free.0 (has.2 ∙ ap (with_effect part place) free.1)
+    takes part letter index at.0 leaves at.1 refl free.0 (has.2 ∙ ap (with_effect part index) free.1)
 
 -- Home
 home_takes : {S P : Type 0} (sim : Simulation S P) (w : ℕ) (old new : Part P) → home sim w old ≡ Some new → Local sim w old new

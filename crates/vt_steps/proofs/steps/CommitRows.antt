@@ -9,5 +9,5 @@ use Rattle.vt_steps.specs.promise.World.{LogicalProcess, process_at}
 
 -- the rows that the processes of w commit, from the process of this index on
 abbrev pub rows_of_processes : {S P : Type 0} → Simulation S P → ℕ → Time → ℕ → List (LogicalProcess P) → List Row
-rows_of_processes sim w floor place processes =
-    flat_map (λ indexed. ripe_rows sim (process_at sim w indexed.0) floor indexed.1) (enumerate_from place processes)
+rows_of_processes sim w floor index processes =
+    flat_map (λ indexed. ripe_rows sim (process_at sim w indexed.0) floor indexed.1) (enumerate_from index processes)

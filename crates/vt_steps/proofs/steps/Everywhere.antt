@@ -17,7 +17,7 @@ use Rattle.vt_steps.specs.promise.PartSteps.{is_below, is_for, mail_of_send, par
 use Rattle.vt_steps.specs.promise.ProcessSteps.{ProcessEffect, effect_of_execute, effect_of_undo, with_letter}
 use Rattle.vt_steps.specs.promise.World.{Entry, LogicalProcess, Part, World, all_letters, letters_in, opening_part, opening_world, process_at, process_count, start_events, triple_after}
 use Rattle.vt_key.proofs.ListLemmas.{every-append, every-drop, every-filter, every-find, every-flat_map, every-among, every-get, every-insert_ordered, every-last, every-map, every-put, every-remove, every-replicate, every-take, every-unflat_map, every-weaker, every-without_first}
-use Rattle.vt_steps.proofs.lists.Places.{get-put_same}
+use Rattle.vt_steps.proofs.lists.Indices.{get-put_same}
 use Rattle.vt_steps.proofs.letters.Stamped.{length-stamped}
 use Rattle.vt_steps.proofs.steps.Changes.{Act, executes, undoes, cancels, Leaves, homes, arrives, Local, acts, takes, Change, stays, local, sends, fetches, cuts, reports, commits, closes}
 use Rattle.vt_steps.proofs.steps.Shape.{IsShaped, process-known}
@@ -110,15 +110,15 @@ module _ {P : Type 0} (Q R : Event P → Type 0) (f : (x : Event P) → Q x → 
 -- sends by an event, standing somewhere
 pub data PartSpread {S P : Type 0} (sim : Simulation S P) (w : ℕ) (old new : Part P) : Type 1 where
   part_kept : ((Q : Event P → Type 0) → InPart Q old → InPart Q new) → PartSpread sim w old new
-  part_made : (place : ℕ) (process : LogicalProcess P) (triple : Triple S) (event : Sent P) → slice_get old.processes place ≡ Some process →
-      old.serial + length (sim.fire (process_at sim w place) triple event).sends ≤ new.serial →
-      ((Q : Event P → Type 0) → InPart Q old → AllByRecursion Q (stamped w old.serial (sim.fire (process_at sim w place) triple event).sends) → InPart Q new) → PartSpread sim w old new
+  part_made : (index : ℕ) (process : LogicalProcess P) (triple : Triple S) (event : Sent P) → slice_get old.processes index ≡ Some process →
+      old.serial + length (sim.fire (process_at sim w index) triple event).sends ≤ new.serial →
+      ((Q : Event P → Type 0) → InPart Q old → AllByRecursion Q (stamped w old.serial (sim.fire (process_at sim w index) triple event).sends) → InPart Q new) → PartSpread sim w old new
 
 -- a process gives way, and letters go to the outbox
-effect-in : {P : Type 0} (Q : Event P → Type 0) (part : Part P) (place : ℕ) (effect : ProcessEffect P) → InPart Q part → InProcess Q effect.process → AllByRecursion (λ letter. Q letter.event) effect.letters →
-    InPart Q (with_effect part place effect)
-effect-in Q part place effect h p l = record {
-  processes = every-put (InProcess Q) part.processes place effect.process h.processes p;
+effect-in : {P : Type 0} (Q : Event P → Type 0) (part : Part P) (index : ℕ) (effect : ProcessEffect P) → InPart Q part → InProcess Q effect.process → AllByRecursion (λ letter. Q letter.event) effect.letters →
+    InPart Q (with_effect part index effect)
+effect-in Q part index effect h p l = record {
+  processes = every-put (InProcess Q) part.processes index effect.process h.processes p;
   outbox = every-append (λ letter. Q letter.event) part.outbox effect.letters h.outbox l;
   arrived = h.arrived;
 }
@@ -141,21 +141,21 @@ commit-in Q floor process h = record {
 
 module _ {S P : Type 0} (sim : Simulation S P) where
   -- a process acts
-  act-spread : (w place : ℕ) (old : Part P) (process : LogicalProcess P) (effect : ProcessEffect P) → slice_get old.processes place ≡ Some process →
-      Act sim (process_at sim w place) w old.serial process effect → PartSpread sim w old (with_effect old place effect)
+  act-spread : (w index : ℕ) (old : Part P) (process : LogicalProcess P) (effect : ProcessEffect P) → slice_get old.processes index ≡ Some process →
+      Act sim (process_at sim w index) w old.serial process effect → PartSpread sim w old (with_effect old index effect)
   unfolding effect_of_execute effect_of_undo
-  act-spread w place old process effect at (executes least rest pending follows is) =
-      let p : ℕ = process_at sim w place in
+  act-spread w index old process effect at (executes least rest pending follows is) =
+      let p : ℕ = process_at sim w index in
       let triple : Triple S = triple_after sim p (process.done ++ process.past) in
       let made : List (Event P) = stamped w old.serial (sim.fire p triple (unstamped least.event)).sends in
-      part_made place process triple (unstamped least.event) at
+      part_made index process triple (unstamped least.event) at
       (let a : effect.serials ≡ length made = ap (λ n. n.serials) is in
       let b = length-stamped w old.serial (sim.fire p triple (unstamped least.event)).sends in
       omega arith)
       (λ Q h fresh.
-      (let here = every-get (InProcess Q) old.processes place process at h.processes in
+      (let here = every-get (InProcess Q) old.processes index process at h.processes in
       let queue : AllByRecursion (λ letter. Q letter.event) (least ∷ rest) = subst (AllByRecursion (λ letter. Q letter.event)) pending here.pending in
-      effect-in Q old place effect h
+      effect-in Q old index effect h
       (subst (λ a. InProcess Q a.process) (sym is) (record {
         done = here.done;
         past = every-append (InEntry Q) process.past (record { event = least.event; sent = made } ∷ []) here.past (record { event = queue.0; sent = fresh }, tt);
@@ -163,11 +163,11 @@ module _ {S P : Type 0} (sim : Simulation S P) where
         waiting = here.waiting;
       }))
       (subst (λ a. AllByRecursion (λ letter. Q letter.event) a.letters) (sym is) (every-map (signed Plus) (λ letter. Q letter.event) made fresh))))
-  act-spread w place old process effect at (undoes last last_is must is) =
+  act-spread w index old process effect at (undoes last last_is must is) =
       part_kept (λ Q h.
-      (let here = every-get (InProcess Q) old.processes place process at h.processes in
+      (let here = every-get (InProcess Q) old.processes index process at h.processes in
       let entry = every-last (InEntry Q) process.past last last_is here.past in
-      effect-in Q old place effect h
+      effect-in Q old index effect h
       (subst (λ a. InProcess Q a.process) (sym is) (record {
         done = here.done;
         past = every-take (InEntry Q) (length process.past - 1) process.past here.past;
@@ -175,10 +175,10 @@ module _ {S P : Type 0} (sim : Simulation S P) where
         waiting = here.waiting;
       }))
       (subst (λ a. AllByRecursion (λ letter. Q letter.event) a.letters) (sym is) (every-map (signed Minus) (λ letter. Q letter.event) last.sent entry.sent))))
-  act-spread w place old process effect at (cancels stamp minus plus waits pends keys is) =
+  act-spread w index old process effect at (cancels stamp minus plus waits pends keys is) =
       part_kept (λ Q h.
-      (let here = every-get (InProcess Q) old.processes place process at h.processes in
-      effect-in Q old place effect h
+      (let here = every-get (InProcess Q) old.processes index process at h.processes in
+      effect-in Q old index effect h
       (subst (λ a. InProcess Q a.process) (sym is) (record {
         done = here.done;
         past = here.past;
@@ -208,12 +208,12 @@ module _ {S P : Type 0} (sim : Simulation S P) where
 
   -- a local step
   local-spread : (w : ℕ) (old new : Part P) → Local sim w old new → PartSpread sim w old new
-  local-spread w old new (acts place process effect at act is) = subst (PartSpread sim w old) (sym is) (act-spread w place old process effect at act)
-  local-spread w old new (takes part letter place process leaves at place_is free is) =
+  local-spread w old new (acts index process effect at act is) = subst (PartSpread sim w old) (sym is) (act-spread w index old process effect at act)
+  local-spread w old new (takes part letter index process leaves at index_is free is) =
       part_kept (λ Q h.
       (let left = leaves-in w old part letter leaves Q h in
-      subst (InPart Q) (sym is) (effect-in Q part place (record { process = with_letter process letter.sign letter; letters = []; serials = 0 }) left.0
-      (with_letter-in Q process letter.sign letter (every-get (InProcess Q) part.processes place process at left.0.processes) left.1) tt)))
+      subst (InPart Q) (sym is) (effect-in Q part index (record { process = with_letter process letter.sign letter; letters = []; serials = 0 }) left.0
+      (with_letter-in Q process letter.sign letter (every-get (InProcess Q) part.processes index process at left.0.processes) left.1) tt)))
 
 -- ---- a world
 
@@ -241,9 +241,9 @@ module _ {S P : Type 0} (sim : Simulation S P) where
   change-spread old new shape (local w part after is change e) =
       elim (local-spread sim w part after change) [
         | part_kept f ↦ kept (λ Q h. still-in Q old new w part after is (ap (λ n. n.parts) e) (ap (λ n. n.inboxes) e) (f Q) h)
-        | part_made place process triple event at more f ↦
-            made w part after (process_at sim w place) triple event is (ap (λ n. slice_get n.parts w) e ∙ get-put_same old.parts w part after is)
-            (process-known sim old shape w place part process is at) more
+        | part_made index process triple event at more f ↦
+            made w part after (process_at sim w index) triple event is (ap (λ n. slice_get n.parts w) e ∙ get-put_same old.parts w part after is)
+            (process-known sim old shape w index part process is at) more
             (λ Q h fresh. still-in Q old new w part after is (ap (λ n. n.parts) e) (ap (λ n. n.inboxes) e) (λ k. f Q k fresh) h)
       ]
   change-spread old new shape (sends w v part inbox is in_is e) =

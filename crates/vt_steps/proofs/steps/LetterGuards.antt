@@ -68,16 +68,16 @@ module _ {P : Type 0} where
   part-entries g world w part at = sum-at (part_entries g) world.parts w part at
 
 -- a copy in the outbox or the arrived mail, and one at the process: one too many
-not-held : {S P : Type 0} (sim : Simulation S P) (serial : ℕ) (world : World P) (w place : ℕ) (part : Part P) (process : LogicalProcess P) (sign : Sign) (rank : Rank) → StampFacts sim serial rank.stamp world →
-    slice_get world.parts w ≡ Some part → slice_get part.processes place ≡ Some process →
+not-held : {S P : Type 0} (sim : Simulation S P) (serial : ℕ) (world : World P) (w index : ℕ) (part : Part P) (process : LogicalProcess P) (sign : Sign) (rank : Rank) → StampFacts sim serial rank.stamp world →
+    slice_get world.parts w ≡ Some part → slice_get part.processes index ≡ Some process →
     1 ≤ sum_by (letter_weight (is_copy sign rank.stamp)) part.outbox + sum_by (mail_weight (is_copy sign rank.stamp)) part.arrived → holds entry_rank process.pending process.waiting process.past sign rank ≡ true → ⊥
-not-held {P = P} sim serial world w place part process Plus rank facts at there outside h =
+not-held {P = P} sim serial world w index part process Plus rank facts at there outside h =
     let f : Sign → Event P → ℕ = is_copy Plus rank.stamp in
     let g : Entry P → ℕ = is_event_of rank.stamp in
     let a = part-letters f world w part at in
     let b = part-entries g world w part at in
-    let c = sum-at (process_sum f) part.processes place process there in
-    let d = sum-at (process_entries g) part.processes place process there in
+    let c = sum-at (process_sum f) part.processes index process there in
+    let d = sum-at (process_entries g) part.processes index process there in
     let one = facts.at_most_one in
     let whole : plus world rank.stamp ≡ letter_sum f world + entry_sum g world = refl in
     let letters : part_sum f part ≡ sum_by (letter_weight f) part.outbox + (sum_by (mail_weight f) part.arrived + sum_by (process_sum f) part.processes) = refl in
@@ -96,10 +96,10 @@ not-held {P = P} sim serial world w place part process Plus rank facts at there 
           let all : part_entries g part ≡ sum_by (process_entries g) part.processes = refl in
           omega arith)
     ]
-not-held {P = P} sim serial world w place part process Minus rank facts at there outside h =
+not-held {P = P} sim serial world w index part process Minus rank facts at there outside h =
     let f : Sign → Event P → ℕ = is_copy Minus rank.stamp in
     let a = part-letters f world w part at in
-    let c = sum-at (process_sum f) part.processes place process there in
+    let c = sum-at (process_sum f) part.processes index process there in
     let one = facts.at_most_one in
     let balance = facts.balance in
     let whole : minus world rank.stamp ≡ letter_sum f world = refl in

@@ -21,7 +21,7 @@ use Rattle.vt_steps.proofs.steps.CellLemmas.{next-acts_on_one_cell}
 use Rattle.vt_steps.proofs.steps.Changes.{map_has, chain_has}
 use Rattle.vt_steps.proofs.steps.Outcomes.{done_or_refused-either, unless_closed-either}
 use Rattle.vt_steps.proofs.marks.MarkedRuns.{marked-append, own-append, own-first, unmarked-marked}
-use Rattle.vt_steps.proofs.lists.Places.{get-put_same, get-put_other}
+use Rattle.vt_steps.proofs.lists.Indices.{get-put_same, get-put_other}
 use Rattle.vt_key.proofs.ListLemmas.{every-append}
 use Rattle.vt_steps.proofs.steps.MemoryLemmas.{run-append}
 

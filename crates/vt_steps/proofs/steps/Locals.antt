@@ -9,7 +9,7 @@ use Rattle.vt_steps.specs.promise.Next.{done_or_refused, with_part, locally, don
 use Rattle.vt_steps.specs.promise.Cells.{action_worker}
 use Rattle.vt_steps.specs.inside.Cells.{action_cell, is_local}
 use Rattle.vt_steps.specs.inside.Laws.{ChangesOnePart}
-use Rattle.vt_steps.proofs.lists.Places.{get-put_other}
+use Rattle.vt_steps.proofs.lists.Indices.{get-put_other}
 
 -- only the part of w is another
 record OnlyPart {P : Type 0} (world : World P) (w : ℕ) (new : World P) : Type 0 where

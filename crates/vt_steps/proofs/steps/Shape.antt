@@ -15,36 +15,36 @@ use Rattle.vt_steps.specs.promise.Next.{reached}
 use Rattle.vt_key.specs.declared.letter.Letter.{Letter}
 use Rattle.vt_steps.specs.promise.World.{LogicalProcess, Part, World, process_at, process_count, opening_part, opening_world}
 use Rattle.vt_steps.specs.promise.PartSteps.{part_after_commit, part_after_cut, part_after_fetch, part_after_send}
-use Rattle.vt_steps.proofs.lists.Places.{all-put, get-map, get-range, get-within}
+use Rattle.vt_steps.proofs.lists.Indices.{all-put, get-map, get-range, get-within}
 use Rattle.vt_steps.proofs.steps.Changes.{Leaves, homes, arrives, Local, acts, takes, Change, stays, local, sends, fetches, cuts, reports, commits, closes, run_keeps}
 
--- ---- numbers of processes and their places
+-- ---- numbers of processes and their indices
 
 module _ {S P : Type 0} (sim : Simulation S P) where
-  -- a process has the number of its place
-  pub own-place : (p : ℕ) → process_at sim (p % sim.workers) (p / sim.workers) ≡ p
-  own-place p = div-add-mod' p sim.workers
+  -- a process has the number of its index
+  pub own-index : (p : ℕ) → process_at sim (p % sim.workers) (p / sim.workers) ≡ p
+  own-index p = div-add-mod' p sim.workers
 
-  -- the worker of a place's process
-  pub worker-of_place : (w place : ℕ) → w < sim.workers → process_at sim w place % sim.workers ≡ w
-  worker-of_place w place within = mod-mul-add place sim.workers w within
+  -- the worker of the process at an index
+  pub worker-of_index : (w index : ℕ) → w < sim.workers → process_at sim w index % sim.workers ≡ w
+  worker-of_index w index within = mod-mul-add index sim.workers w within
 
-  -- and the place
-  pub place-of_place : (w place : ℕ) → w < sim.workers → process_at sim w place / sim.workers ≡ place
-  place-of_place w place within = div-mul-add place sim.workers w within
+  -- and the index
+  pub index-of_index : (w index : ℕ) → w < sim.workers → process_at sim w index / sim.workers ≡ index
+  index-of_index w index within = div-mul-add index sim.workers w within
 
-  -- a worker's places are those of processes below lps
-  pub place-known : (w place : ℕ) → w < sim.workers → place < process_count sim w → process_at sim w place < sim.lps
-  place-known w place within less =
+  -- a worker's indices are those of processes below lps
+  pub index-known : (w index : ℕ) → w < sim.workers → index < process_count sim w → process_at sim w index < sim.lps
+  index-known w index within less =
       let some : 0 < sim.workers = omega arith in
-      let whole : suc place * sim.workers ≤ sim.lps + (sim.workers - 1) - w = (le-div_iff_mul-le {k = sim.workers} {x = suc place} {y = sim.lps + (sim.workers - 1) - w} some).0 less in
-      let more : suc place * sim.workers ≡ place * sim.workers + sim.workers = suc-mul place sim.workers in
+      let whole : suc index * sim.workers ≤ sim.lps + (sim.workers - 1) - w = (le-div_iff_mul-le {k = sim.workers} {x = suc index} {y = sim.lps + (sim.workers - 1) - w} some).0 less in
+      let more : suc index * sim.workers ≡ index * sim.workers + sim.workers = suc-mul index sim.workers in
       omega arith
 
-  -- and each process below lps has a place
-  pub known-place : (p : ℕ) → 1 ≤ sim.workers → p < sim.lps → p / sim.workers < process_count sim (p % sim.workers)
-  known-place p some less =
-      let whole = own-place p in
+  -- and each process below lps has an index
+  pub known-index : (p : ℕ) → 1 ≤ sim.workers → p < sim.lps → p / sim.workers < process_count sim (p % sim.workers)
+  known-index p some less =
+      let whole = own-index p in
       let within : p % sim.workers < sim.workers = mod-lt p some in
       let more : suc (p / sim.workers) * sim.workers ≡ p / sim.workers * sim.workers + sim.workers = suc-mul (p / sim.workers) sim.workers in
       let fits : suc (p / sim.workers) * sim.workers ≤ sim.lps + (sim.workers - 1) - p % sim.workers = omega arith in
@@ -66,9 +66,9 @@ module _ {S P : Type 0} (sim : Simulation S P) where
 
   -- a local step keeps the number of processes
   local-processes : (w : ℕ) (old new : Part P) → Local sim w old new → length new.processes ≡ length old.processes
-  local-processes w old new (acts place process effect at act e) = ap (λ part. length part.processes) e ∙ length-set old.processes place effect.process
-  local-processes w old new (takes part letter place process leaves at place_is free e) =
-      ap (λ part. length part.processes) e ∙ length-set part.processes place _ ∙ ap length (leaves-processes w old part letter leaves)
+  local-processes w old new (acts index process effect at act e) = ap (λ part. length part.processes) e ∙ length-set old.processes index effect.process
+  local-processes w old new (takes part letter index process leaves at index_is free e) =
+      ap (λ part. length part.processes) e ∙ length-set part.processes index _ ∙ ap length (leaves-processes w old part letter leaves)
 
   -- a part with as many processes takes a part's place
   part-shaped : (old new : World P) (w : ℕ) (part after : Part P) → IsShaped sim old → slice_get old.parts w ≡ Some part → new.parts ≡ slice_set old.parts w after → length new.inboxes ≡ length old.inboxes →
@@ -124,16 +124,16 @@ module _ {S P : Type 0} (sim : Simulation S P) where
   part-within world h w part at = let within = slice_get_within world.parts w part at in let size = h.parts in omega arith
 
   -- each process is one below lps
-  pub process-known : (world : World P) → IsShaped sim world → (w place : ℕ) (part : Part P) (process : LogicalProcess P) → slice_get world.parts w ≡ Some part → slice_get part.processes place ≡ Some process →
-      process_at sim w place < sim.lps
-  process-known world h w place part process at there =
-      place-known sim w place (part-within world h w part at) (let within = slice_get_within part.processes place process there in let size = h.processes w part at in omega arith)
+  pub process-known : (world : World P) → IsShaped sim world → (w index : ℕ) (part : Part P) (process : LogicalProcess P) → slice_get world.parts w ≡ Some part → slice_get part.processes index ≡ Some process →
+      process_at sim w index < sim.lps
+  process-known world h w index part process at there =
+      index-known sim w index (part-within world h w part at) (let within = slice_get_within part.processes index process there in let size = h.processes w part at in omega arith)
 
-  -- each process below lps is there, at its worker's place
+  -- each process below lps is there, at its index of its worker
   pub known-process : (world : World P) → IsShaped sim world → (p : ℕ) (part : Part P) → 1 ≤ sim.workers → p < sim.lps → slice_get world.parts (p % sim.workers) ≡ Some part →
       (process : LogicalProcess P) × (slice_get part.processes (p / sim.workers) ≡ Some process)
   known-process world h p part some less at =
-      get-within part.processes (p / sim.workers) (let fits = known-place sim p some less in let size = h.processes (p % sim.workers) part at in omega arith)
+      get-within part.processes (p / sim.workers) (let fits = known-index sim p some less in let size = h.processes (p % sim.workers) part at in omega arith)
 
   -- so a shaped world has each part and each process, and no others
   pub shaped-has_each : (world : World P) → IsShaped sim world → 1 ≤ sim.workers → HasEach sim world
@@ -145,7 +145,7 @@ module _ {S P : Type 0} (sim : Simulation S P) where
         let part = there (p % sim.workers) (mod-lt p some) in
         let process = known-process world h p part.0 some less part.1 in
         (process.0, (part.0, part.1, process.1)));
-    known = λ p process is. subst (λ n. n < sim.lps) (own-place sim p) (process-known world h (p % sim.workers) (p / sim.workers) is.0 process is.1 is.2);
+    known = λ p process is. subst (λ n. n < sim.lps) (own-index sim p) (process-known world h (p % sim.workers) (p / sim.workers) is.0 process is.1 is.2);
   }
     where
       there : (w : ℕ) → w < sim.workers → (part : Part P) × (slice_get world.parts w ≡ Some part)

@@ -18,7 +18,7 @@ use Rattle.vt_steps.specs.promise.PartSteps.{report_least}
 use Rattle.vt_steps.specs.promise.World.{Part, World, letters_in}
 use Rattle.vt_steps.proofs.time.Early.{early_in, at-most-least, letters-early}
 use Rattle.vt_steps.proofs.time.Floors.{AreTimesSound}
-use Rattle.vt_steps.proofs.lists.Places.{get-within}
+use Rattle.vt_steps.proofs.lists.Indices.{get-within}
 use Rattle.vt_steps.proofs.lists.Sums.{sum-at}
 
 module _ {S P : Type 0} (sim : Simulation S P) (world : World P) (s : AreTimesSound sim world) where

@@ -27,7 +27,7 @@ use Rattle.vt_steps.proofs.time.EarlyLocal.{hasty, local-early, local-same}
 use Rattle.vt_steps.proofs.time.Flags.{clear-is, may-tells}
 use Rattle.vt_steps.proofs.letters.OpeningSums.{opening-letters, opening-entries}
 use Rattle.vt_steps.proofs.time.Passes.{open-kept, open-round_is_open, cut-kept, report-kept, report-is_open, pass-kept}
-use Rattle.vt_steps.proofs.lists.Places.{get-map}
+use Rattle.vt_steps.proofs.lists.Indices.{get-map}
 use Rattle.vt_steps.proofs.time.Rounds.{IsRoundSound, part-kept, send-kept, fetch-kept}
 use Rattle.vt_steps.proofs.steps.Shape.{IsShaped, shape-kept, opening-shape, process-known}
 use Rattle.vt_steps.proofs.lists.Sums.{sum_by-put, sum_by-map, sum_by-same, sum_by-zero, sum-at}
@@ -57,7 +57,7 @@ module _ {S P : Type 0} (sim : Simulation S P) (lawful : IsLawful sim) (t : Time
   change-kept (local w part after is change e) g shape =
       let none = g.entries in
       let here = sum-at (part_entries hasty) old.parts w part is in
-      let step = local-early sim lawful t w part after (λ place process at. process-known sim old g.shape w place part process is at) change in
+      let step = local-early sim lawful t w part after (λ index process at. process-known sim old g.shape w index part process is at) change in
       record {
         round = subst (λ n. IsRoundSound sim.end t n.parts n.inboxes n.board) (sym e)
             (part-kept sim.end t old.parts old.inboxes old.board w part after is (local-same sim w part after change) (step.letters (omega arith)) g.round);

@@ -68,7 +68,7 @@ at-most-least end t (letter ∷ letters) h none =
     let b = not-early t letter.sign letter.event (omega arith) in
     omega arith
 
--- ---- all letters of a part and of a world, counted one by one or place by place
+-- ---- all letters of a part and of a world, counted one by one or index by index
 
 -- those that processes hold
 held-early : {P : Type 0} (t : Time) (processes : List (LogicalProcess P)) →

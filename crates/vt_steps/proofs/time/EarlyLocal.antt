@@ -98,22 +98,22 @@ pub record MakesNoneEarly {P : Type 0} (t : Time) (old new : Part P) : Type 0 wh
 
 module _ {S P : Type 0} (sim : Simulation S P) (lawful : IsLawful sim) (t : Time) (w : ℕ) where
   -- a process acts
-  act-early : (place : ℕ) (part : Part P) (process : LogicalProcess P) (effect : ProcessEffect P) → process_at sim w place < sim.lps →
-      slice_get part.processes place ≡ Some process → Act sim (process_at sim w place) w part.serial process effect → MakesNoneEarly t part (with_effect part place effect)
+  act-early : (index : ℕ) (part : Part P) (process : LogicalProcess P) (effect : ProcessEffect P) → process_at sim w index < sim.lps →
+      slice_get part.processes index ≡ Some process → Act sim (process_at sim w index) w part.serial process effect → MakesNoneEarly t part (with_effect part index effect)
   unfolding effect_of_execute effect_of_undo
-  act-early place part process effect known at (executes least rest pending follows effect_is) =
-      let p = process_at sim w place in
+  act-early index part process effect known at (executes least rest pending follows effect_is) =
+      let p = process_at sim w index in
       let triple = triple_after sim p (process.done ++ process.past) in
       let sends : List (Sent P) = (sim.fire p triple (unstamped least.event)).sends in
       let sent = stamped w part.serial sends in
       let entry : Entry P = record { event = least.event; sent = sent } in
-      let b = effect-balance part place process (effect_of_execute sim p w part.serial process least rest) _ _ _ _ at (execute-balance sim p w part.serial process least rest pending) in
+      let b = effect-balance part index process (effect_of_execute sim p w part.serial process least rest) _ _ _ _ at (execute-balance sim p w part.serial process least rest pending) in
       let later : hasty entry ≡ 0 = stamped-later least.event.rank.key.time w part.serial sends (sends-later sim lawful p triple (unstamped least.event) known) in
-      subst (λ a. MakesNoneEarly t part (with_effect part place a)) (sym effect_is) (record {
+      subst (λ a. MakesNoneEarly t part (with_effect part index a)) (sym effect_is) (record {
         letters = λ entries none.
             (let x = b.letters (early t) in
             let y = sum_by-single (letter_weight (early t)) (signed Plus least.event) in
-            let z = sum-at (process_sum (early t)) part.processes place process at in
+            let z = sum-at (process_sum (early t)) part.processes index process at in
             let u = ap (sum_by (λ letter. early t Plus letter.event)) pending in
             let v = sum_by-cons (λ letter. early t Plus letter.event) least rest in
             let time = not-early t Plus least.event (omega arith) in
@@ -121,14 +121,14 @@ module _ {S P : Type 0} (sim : Simulation S P) (lawful : IsLawful sim) (t : Time
             omega arith);
         entries = λ none. (let x = b.entries hasty in let y = sum_by-single hasty entry in omega arith);
       })
-  act-early place part process effect known at (undoes last last_is must effect_is) =
-      let b = effect-balance part place process (effect_of_undo process last) _ _ _ _ at (undo-balance process last last_is) in
-      subst (λ a. MakesNoneEarly t part (with_effect part place a)) (sym effect_is) (record {
+  act-early index part process effect known at (undoes last last_is must effect_is) =
+      let b = effect-balance part index process (effect_of_undo process last) _ _ _ _ at (undo-balance process last last_is) in
+      subst (λ a. MakesNoneEarly t part (with_effect part index a)) (sym effect_is) (record {
         letters = λ entries none.
             (let x = b.letters (early t) in
             let y = sum_by-cons (letter_weight (early t)) (signed Plus last.event) (map (signed Minus) last.sent) in
-            let z = sum-at (process_sum (early t)) part.processes place process at in
-            let e = sum-at (process_entries hasty) part.processes place process at in
+            let z = sum-at (process_sum (early t)) part.processes index process at in
+            let e = sum-at (process_entries hasty) part.processes index process at in
             let f = (undo-balance process last last_is).entries hasty in
             let g = sum_by-single hasty last in
             let time : TimeAtMost t last.event.rank.key.time =
@@ -141,25 +141,25 @@ module _ {S P : Type 0} (sim : Simulation S P) (lawful : IsLawful sim) (t : Time
             omega arith);
         entries = λ none. (let x = b.entries hasty in omega arith);
       })
-  act-early place part process effect known at (cancels stamp minus plus waits pends keys effect_is) =
+  act-early index part process effect known at (cancels stamp minus plus waits pends keys effect_is) =
       let cancelled : ProcessEffect P = record {
         process = record process { pending = without_first (has_stamp stamp) process.pending; waiting = without_first (has_stamp stamp) process.waiting };
         letters = [];
         serials = 0;
       } in
-      let b = effect-balance part place process cancelled _ _ _ _ at (cancel-balance process stamp minus plus waits pends) in
-      subst (λ a. MakesNoneEarly t part (with_effect part place a)) (sym effect_is) (record {
+      let b = effect-balance part index process cancelled _ _ _ _ at (cancel-balance process stamp minus plus waits pends) in
+      subst (λ a. MakesNoneEarly t part (with_effect part index a)) (sym effect_is) (record {
         letters = λ entries none. (let x = b.letters (early t) in omega arith);
         entries = λ none. (let x = b.entries hasty in omega arith);
       })
 
   -- a process acts, or takes a letter
-  pub local-early : (part after : Part P) → ((place : ℕ) (process : LogicalProcess P) → slice_get part.processes place ≡ Some process → process_at sim w place < sim.lps) →
+  pub local-early : (part after : Part P) → ((index : ℕ) (process : LogicalProcess P) → slice_get part.processes index ≡ Some process → process_at sim w index < sim.lps) →
       Local sim w part after → MakesNoneEarly t part after
-  local-early part after known (acts place process effect at act after_is) =
-      subst (λ a. MakesNoneEarly t part a) (sym after_is) (act-early place part process effect (known place process at) at act)
-  local-early part after known (takes mid letter place process leaves at place_is free after_is) =
-      let b = takes-balance sim w place part mid letter process leaves at in
+  local-early part after known (acts index process effect at act after_is) =
+      subst (λ a. MakesNoneEarly t part a) (sym after_is) (act-early index part process effect (known index process at) at act)
+  local-early part after known (takes mid letter index process leaves at index_is free after_is) =
+      let b = takes-balance sim w index part mid letter process leaves at in
       subst (λ a. MakesNoneEarly t part a) (sym after_is) (record {
         letters = λ entries none. (let x = b.letters (early t) in omega arith);
         entries = λ none. (let x = b.entries hasty in omega arith);
@@ -167,11 +167,11 @@ module _ {S P : Type 0} (sim : Simulation S P) (lawful : IsLawful sim) (t : Time
 
 -- it keeps the worker's colour, counts and red minimum
 pub local-same : {S P : Type 0} (sim : Simulation S P) (w : ℕ) (part after : Part P) → Local sim w part after → SameCounts part after
-local-same sim w part after (acts place process effect at act after_is) =
-    subst (λ a. SameCounts part a) (sym after_is) (let same : SameCounts part (with_effect part place effect) = record { colour = refl; sent = refl; got = refl; red_minimum = refl } in same)
-local-same sim w part after (takes mid letter place process (homes found mid_is) at place_is free after_is) =
+local-same sim w part after (acts index process effect at act after_is) =
+    subst (λ a. SameCounts part a) (sym after_is) (let same : SameCounts part (with_effect part index effect) = record { colour = refl; sent = refl; got = refl; red_minimum = refl } in same)
+local-same sim w part after (takes mid letter index process (homes found mid_is) at index_is free after_is) =
     subst (λ a. SameCounts part a) (sym after_is)
     (record { colour = ap (λ a. a.colour) mid_is; sent = ap (λ a. a.sent) mid_is; got = ap (λ a. a.got) mid_is; red_minimum = ap (λ a. a.red_minimum) mid_is })
-local-same sim w part after (takes mid letter place process (arrives i mail found same mid_is) at place_is free after_is) =
+local-same sim w part after (takes mid letter index process (arrives i mail found same mid_is) at index_is free after_is) =
     subst (λ a. SameCounts part a) (sym after_is)
     (record { colour = ap (λ a. a.colour) mid_is; sent = ap (λ a. a.sent) mid_is; got = ap (λ a. a.got) mid_is; red_minimum = ap (λ a. a.red_minimum) mid_is })

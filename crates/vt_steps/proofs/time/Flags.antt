@@ -1,4 +1,4 @@
--- Sums over the workers whose flag is set, flags, and what stands at a place after a write.
+-- Sums over the workers whose flag is set, flags, and what stands at an index after a write.
 use Rattle.std.proofs.Common.{◌≡◌, ◌⊎◌, inl, inr, ℕ, zero, suc, ◌+◌, ◌≤◌, Bool, true, false, cond, List, [], ◌∷◌, length, replicate, refl, sym, ◌∙◌, ap, arith, Option, Some, None, slice_get, slice_set}
 use Rattle.std.specs.List.{sum_by}
 use Rattle.std.proofs.lemmas.Bool.{and_parts}
@@ -7,11 +7,11 @@ use Rattle.std.proofs.lemmas.List.Sums.{sum_by-cons}
 use Rattle.vt_key.specs.promise.Times.{Time, TimeAtMost, time_at_most}
 use Rattle.vt_steps.specs.promise.World.{Board}
 use Rattle.vt_steps.specs.promise.BoardSteps.{all_set, is_clear, may_report}
-use Rattle.vt_steps.proofs.lists.Places.{get-put_same, get-put_other}
+use Rattle.vt_steps.proofs.lists.Indices.{get-put_same, get-put_other}
 
 -- ---- sums over those whose flag is set
 
--- the sum over the places whose flag is set
+-- the sum over the indices whose flag is set
 pub flagged_sum : {X : Type 0} → (X → ℕ) → List Bool → List X → ℕ
 flagged_sum h [] xs = 0
 flagged_sum h (b ∷ bs) [] = 0
@@ -136,7 +136,7 @@ may-tells w value board may =
 
 -- ---- an element after a write
 
--- what stands at a place after a write was written there, or stood there before
+-- what stands at an index after a write was written there, or stood there before
 pub put-cases : {X : Type 0} (xs : List X) (i j : ℕ) (x y z : X) → slice_get xs i ≡ Some x → slice_get (slice_set xs i y) j ≡ Some z →
     ((j ≡ i) × (z ≡ y)) ⊎ ((j ≡ i → ⊥) × (slice_get xs j ≡ Some z))
 put-cases xs i j x y z is at =

@@ -21,7 +21,7 @@ use Rattle.vt_steps.specs.promise.Letters.{least_of}
 use Rattle.vt_steps.proofs.time.Announced.{IsTimeSound, time-kept, opening-time-sound}
 use Rattle.vt_steps.proofs.steps.Changes.{homes, arrives, Local, acts, takes, Change, stays, local, sends, fetches, cuts, reports, commits, closes, next_changes, run_keeps, if_has}
 use Rattle.vt_steps.proofs.steps.Outcomes.{with_open_round-either, after_report-either}
-use Rattle.vt_steps.proofs.lists.Places.{all-put, get-map, get-replicate, get-within}
+use Rattle.vt_steps.proofs.lists.Indices.{all-put, get-map, get-replicate, get-within}
 use Rattle.vt_steps.proofs.time.Flags.{put-cases, may-tells}
 
 -- ---- the least of a list of floors
@@ -74,9 +74,9 @@ same-floor end parts board book w part after is same f = part-floor end parts bo
 
 -- a local step keeps the worker's floor
 pub local-floor : {S P : Type 0} (sim : Simulation S P) (w : ℕ) (part after : Part P) → Local sim w part after → after.floor ≡ part.floor
-local-floor sim w part after (acts place process effect at act after_is) = ap (λ a. a.floor) after_is
-local-floor sim w part after (takes mid letter place process (homes found mid_is) at place_is free after_is) = ap (λ a. a.floor) after_is ∙ ap (λ a. a.floor) mid_is
-local-floor sim w part after (takes mid letter place process (arrives i mail found same mid_is) at place_is free after_is) = ap (λ a. a.floor) after_is ∙ ap (λ a. a.floor) mid_is
+local-floor sim w part after (acts index process effect at act after_is) = ap (λ a. a.floor) after_is
+local-floor sim w part after (takes mid letter index process (homes found mid_is) at index_is free after_is) = ap (λ a. a.floor) after_is ∙ ap (λ a. a.floor) mid_is
+local-floor sim w part after (takes mid letter index process (arrives i mail found same mid_is) at index_is free after_is) = ap (λ a. a.floor) after_is ∙ ap (λ a. a.floor) mid_is
 
 -- ---- the board changes
 

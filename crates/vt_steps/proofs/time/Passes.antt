@@ -18,7 +18,7 @@ use Rattle.vt_steps.proofs.letters.Colours.{sent_in, got_in, early_coloured, oth
 use Rattle.vt_steps.proofs.time.Early.{early_in, early_mail, none-early, letters-early}
 use Rattle.vt_steps.proofs.time.Flags.{flagged_sum-put_same, flagged_sum-set, flagged_sum-all, flagged_sum-none, none-set, set-at, put-cases}
 use Rattle.vt_steps.proofs.steps.Outcomes.{with_open_round-either, after_report-either}
-use Rattle.vt_steps.proofs.lists.Places.{all-put, get-put_same, get-put_other, get-replicate, get-within}
+use Rattle.vt_steps.proofs.lists.Indices.{all-put, get-put_same, get-put_other, get-replicate, get-within}
 use Rattle.vt_steps.proofs.time.Rounds.{IsRedLate, IsOpenRound, IsRoundSound}
 use Rattle.vt_steps.proofs.lists.Sums.{sum_by-put, sum_by-nothings, sum-at}
 

@@ -19,7 +19,7 @@ use Rattle.vt_steps.specs.promise.World.{Board, Part}
 use Rattle.vt_steps.proofs.letters.Colours.{sent_in, got_in, early_coloured, mailed, not-other, other-not, count_of-raised, count_of-fetched, count_colour-mailed, early_coloured-mailed, all-coloured}
 use Rattle.vt_steps.proofs.time.Early.{early, early_in, early_letters, early_mail, all_early, none-early, at-most-least}
 use Rattle.vt_steps.proofs.time.Flags.{flagged_sum, flagged_sum-put, flagged_sum-put_same, flagged_sum-grows, flagged_sum-at, set-at}
-use Rattle.vt_steps.proofs.lists.Places.{all-put, all-unput, get-put_same, get-within}
+use Rattle.vt_steps.proofs.lists.Indices.{all-put, all-unput, get-put_same, get-within}
 use Rattle.vt_steps.proofs.lists.Sums.{sum_by-put, sum_by-map, sum_by-filters, sum-at}
 
 -- ---- what holds

@@ -12,13 +12,13 @@ module _ {S P : Type 0} (sim : Simulation S P) where
 
   -- the final values of a worker's processes after the whole sequential run, in rising order of processes
   abbrev pub worker_finals : ℕ → List ℕ
-  worker_finals w = map (λ place. final_value (process_at sim w place)) (range_with_len 0 (process_count sim w))
+  worker_finals w = map (λ index. final_value (process_at sim w index)) (range_with_len 0 (process_count sim w))
 
   -- what is made of the states of these processes of worker w, from this index on, where they stand
   abbrev pub values_of_processes : ℕ → ℕ → List (LogicalProcess P) → List ℕ
-  values_of_processes w place [] = []
-  values_of_processes w place (process ∷ processes) =
-      sim.finish (process_at sim w place) (triple_after sim (process_at sim w place) (process.done ++ process.past)).state ∷ values_of_processes w (place + 1) processes
+  values_of_processes w index [] = []
+  values_of_processes w index (process ∷ processes) =
+      sim.finish (process_at sim w index) (triple_after sim (process_at sim w index) (process.done ++ process.past)).state ∷ values_of_processes w (index + 1) processes
 
   -- what is made of the states of a part's processes, in rising order of processes
   abbrev pub part_values : ℕ → Part P → List ℕ

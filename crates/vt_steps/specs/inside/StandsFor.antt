@@ -66,10 +66,10 @@ module _ {S P : Type 0} (sim : Simulation S P) where
 
   -- values stand for the processes of worker w from this index on, one by one
   abbrev pub StandForProcesses : ℕ → ℕ → List (ProcessMemory S P) → List (LogicalProcess P) → Type 0
-  StandForProcesses w place [] [] = Unit {0}
-  StandForProcesses w place (memory ∷ memories) (process ∷ processes) =
-      StandsForProcess (process_at sim w place) memory process × StandForProcesses w (place + 1) memories processes
-  StandForProcesses w place _ _ = ⊥
+  StandForProcesses w index [] [] = Unit {0}
+  StandForProcesses w index (memory ∷ memories) (process ∷ processes) =
+      StandsForProcess (process_at sim w index) memory process × StandForProcesses w (index + 1) memories processes
+  StandForProcesses w index _ _ = ⊥
 
   -- a value stands for the part of worker w: it stands for its processes, and has its other fields
   pub record StandsForPart (w : ℕ) (memory : PartMemory S P) (part : Part P) : Type 0 where

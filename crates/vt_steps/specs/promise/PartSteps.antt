@@ -20,24 +20,24 @@ use Rattle.vt_steps.specs.promise.ProcessSteps.{ProcessEffect, execute_process, 
 module _ {P : Type 0} where
   -- the part after a step at the process of this index
   abbrev pub with_effect : Part P → ℕ → ProcessEffect P → Part P
-  with_effect part place effect =
-      record part { processes = slice_set part.processes place effect.process; outbox = part.outbox ++ effect.letters; serial = part.serial + effect.serials }
+  with_effect part index effect =
+      record part { processes = slice_set part.processes index effect.process; outbox = part.outbox ++ effect.letters; serial = part.serial + effect.serials }
 
   -- a step at the process of this index, if there is one
   abbrev pub at_process : (LogicalProcess P → Option (ProcessEffect P)) → ℕ → Part P → Option (Part P)
-  at_process step place part = option_map (with_effect part place) (option_and_then step (slice_get part.processes place))
+  at_process step index part = option_map (with_effect part index) (option_and_then step (slice_get part.processes index))
 
   -- Execute at the process of this index of worker w
   abbrev pub execute : {S : Type 0} → Simulation S P → ℕ → ℕ → Part P → Option (Part P)
-  execute sim w place part = at_process (execute_process sim (process_at sim w place) w part.serial) place part
+  execute sim w index part = at_process (execute_process sim (process_at sim w index) w part.serial) index part
 
   -- Undo at the process of this index
   abbrev pub undo : ℕ → Part P → Option (Part P)
-  undo place part = at_process undo_process place part
+  undo index part = at_process undo_process index part
 
   -- Cancel of a stamp at the process of this index
   abbrev pub cancel : ℕ → Stamp → Part P → Option (Part P)
-  cancel place stamp part = at_process (cancel_process stamp) place part
+  cancel index stamp part = at_process (cancel_process stamp) index part
 
 -- ---- Home and Accept
 

@@ -137,11 +137,11 @@ module _ {S P : Type 0} (sim : Simulation S P) where
 
   -- the number of the process at an index of a worker
   abbrev pub process_at : ℕ → ℕ → ℕ
-  process_at w place = place * sim.workers + w
+  process_at w index = index * sim.workers + w
 
   -- what a worker's processes send at their starts, in rising order of processes
   abbrev pub start_sends : ℕ → List (Sent P)
-  start_sends w = flat_map (λ place. (sim.start (process_at w place)).sends) (range_with_len 0 (process_count w))
+  start_sends w = flat_map (λ index. (sim.start (process_at w index)).sends) (range_with_len 0 (process_count w))
 
   -- these sends with stamps, from a first serial on
   abbrev pub start_events : ℕ → ℕ → List (Event P)

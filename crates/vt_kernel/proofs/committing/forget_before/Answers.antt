@@ -8,13 +8,13 @@ pub loop-process-preserved : goal.loop-process-preserved
 loop-process-preserved g c =
     let old = c.args.processes.now in
     let now = c.loop-process.processes in
-    let place = c.loop-process.process-index in
-    let item : HeldProcess _ _ _ = slice_index_or now place c.process-item.result in
+    let index = c.loop-process.process-index in
+    let item : HeldProcess _ _ _ = slice_index_or now index c.process-item.result in
     let new : HeldProcess _ _ _ = c.fossil.new.self in
-    let less : place < length now = subst (λ n. place < n) (sym c.loop-process.invariant.count) c.loop-process-test.true in
-    let at : slice_get now place ≡ Some item = slice_get-get_or now place c.process-item.result less in
+    let less : index < length now = subst (λ n. index < n) (sym c.loop-process.invariant.count) c.loop-process-test.true in
+    let at : slice_get now index ≡ Some item = slice_get-get_or now index c.process-item.result less in
     let same = c.fossil.ensures.same in
-    forgotten-more c.args.floor place old now item new c.loop-process.invariant c.loop-process-test.true at
+    forgotten-more c.args.floor index old now item new c.loop-process.invariant c.loop-process-test.true at
     (record { committed = c.fossil.ensures.committed; lp = same.0; config = same.1; pending = same.3; waiting = same.4 })
 
 pub returns-clause-count : goal.returns-clause-count

@@ -11,7 +11,7 @@ use Rattle.vt_steps.specs.promise.Letters.{stamped, signed}
 use Rattle.vt_steps.specs.promise.World.{process_at}
 use Rattle.vt_lp.specs.inside.Held.{HeldProcess, StandsFor as ProcessStandsFor, opening_process}
 use Rattle.vt_kernel.specs.inside.Held.{AreProcesses}
-use Rattle.vt_kernel.proofs.MakeLemmas.{started_sends, started-more, started-fits, place-left, places-done, place-own, stamped-append, are-push}
+use Rattle.vt_kernel.proofs.MakeLemmas.{started_sends, started-more, started-fits, index-left, indices-done, index-own, stamped-append, are-push}
 use Rattle.vt_key.proofs.ResultLemmas.{if_err}
 use Rattle.vt_kernel.proofs.making.start_all.Goals as goal
 
@@ -32,7 +32,7 @@ loop-p-preserved g c =
     let counted : length c.push.new.self.items ≡ length (items ++ q ∷ []) = ap length pushed in
     let len : length c.push.new.self.items ≡ suc n = omega (arith, counted, longer) in
     let here : process_at sim w n ≡ p = sym inv.at in
-    let own : p % config.workers ≡ w = place-own config.workers w n p c.requires.known inv.at in
+    let own : p % config.workers ≡ w = index-own config.workers w n p c.requires.known inv.at in
     let before = started_sends sim w n in
     let sends = (sim.start p).sends in
     let more : started_sends sim w (suc n) ≡ before ++ sends = started-more sim w n ∙ ap (λ (k : ℕ). before ++ (sim.start k).sends) here in
@@ -67,7 +67,7 @@ returns-in_err-process-clause-refused g c =
     let n : ℕ = length c.loop-p.processes.items in
     let p = c.loop-p.p in
     let less : p < config.lps = c.loop-p-test.true in
-    let left = place-left config.lps config.workers w n p c.requires.known inv.at less in
+    let left = index-left config.lps config.workers w n p c.requires.known inv.at less in
     let fits = started-fits sim w n left in
     let here : length (sim.start (process_at sim w n)).sends ≡ length (sim.start p).sends = ap (λ (k : ℕ). length (sim.start k).sends) (sym inv.at) in
     let memory : c.in_err-process.field-0.0 ≡ Memory = elim c.in_err-process.ensures.refused [
@@ -82,18 +82,18 @@ returns-in_err-process-clause-refused g c =
 pub returns-clause-count : goal.returns-clause-count
 returns-clause-count g c =
     let inv = c.loop-p.invariant in
-    places-done c.args.config.lps c.args.config.workers c.args.w (length c.loop-p.processes.items) c.loop-p.p c.requires.known inv.at c.loop-p-test.false inv.near
+    indices-done c.args.config.lps c.args.config.workers c.args.w (length c.loop-p.processes.items) c.loop-p.p c.requires.known inv.at c.loop-p-test.false inv.near
 
 pub returns-clause-outbox : goal.returns-clause-outbox
 returns-clause-outbox g c =
     let inv = c.loop-p.invariant in
     let sim = simulation_of (g.M.Model.handlers c.args.model.now) c.args.config in
-    let done = places-done c.args.config.lps c.args.config.workers c.args.w (length c.loop-p.processes.items) c.loop-p.p c.requires.known inv.at c.loop-p-test.false inv.near in
+    let done = indices-done c.args.config.lps c.args.config.workers c.args.w (length c.loop-p.processes.items) c.loop-p.p c.requires.known inv.at c.loop-p-test.false inv.near in
     inv.outbox ∙ ap (λ (k : ℕ). map (signed Plus) (stamped c.args.w c.args.serial.now (started_sends sim c.args.w k))) done
 
 pub returns-clause-serial : goal.returns-clause-serial
 returns-clause-serial g c =
     let inv = c.loop-p.invariant in
     let sim = simulation_of (g.M.Model.handlers c.args.model.now) c.args.config in
-    let done = places-done c.args.config.lps c.args.config.workers c.args.w (length c.loop-p.processes.items) c.loop-p.p c.requires.known inv.at c.loop-p-test.false inv.near in
+    let done = indices-done c.args.config.lps c.args.config.workers c.args.w (length c.loop-p.processes.items) c.loop-p.p c.requires.known inv.at c.loop-p-test.false inv.near in
     inv.serial ∙ ap (λ (k : ℕ). c.args.serial.now + length (started_sends sim c.args.w k)) done

@@ -4,7 +4,7 @@ use Rattle.std.proofs.Math.Nat.{suc-mul}
 use Rattle.vt_key.specs.declared.limits.TheConstants.{MAX_COUNT}
 use Rattle.vt_model.specs.promise.Simulation.{simulation_of}
 use Rattle.vt_steps.specs.promise.World.{process_at, start_sends}
-use Rattle.vt_kernel.proofs.MakeLemmas.{started_sends, started-more, started-fits, place-left, places-done, few-sent}
+use Rattle.vt_kernel.proofs.MakeLemmas.{started_sends, started-more, started-fits, index-left, indices-done, few-sent}
 use Rattle.vt_kernel.proofs.making.starts_fit.Goals as goal
 
 pub returns-then-serial : goal.returns-then-serial
@@ -23,7 +23,7 @@ returns-then-sent-serial g c =
     let sim = simulation_of (g.M.Model.handlers c.args.model.now) config in
     let w = c.args.w in
     let n : ℕ = inv.0 in
-    let left = place-left config.lps config.workers w n c.loop-p.p c.requires.known inv.1 c.loop-p-test.true in
+    let left = index-left config.lps config.workers w n c.loop-p.p c.requires.known inv.1 c.loop-p-test.true in
     let fits = started-fits sim w n left in
     let here : length (sim.start (process_at sim w n)).sends ≡ length (sim.start c.loop-p.p).sends = ap (λ (k : ℕ). length (sim.start k).sends) (sym inv.1) in
     let over : MAX_COUNT < c.args.serial + length (start_sends sim w) = omega (arith, fits, here, inv.3, inv.4, c.count_started-sent.ensures, c.if-sent-serial.true) in
@@ -48,6 +48,6 @@ returns g c =
     let inv = c.loop-p.invariant in
     let config = c.args.config in
     let sim = simulation_of (g.M.Model.handlers c.args.model.now) config in
-    let done = places-done config.lps config.workers c.args.w inv.0 c.loop-p.p c.requires.known inv.1 c.loop-p-test.false inv.2 in
+    let done = indices-done config.lps config.workers c.args.w inv.0 c.loop-p.p c.requires.known inv.1 c.loop-p-test.false inv.2 in
     let all : length (started_sends sim c.args.w inv.0) ≡ length (start_sends sim c.args.w) = ap (λ (k : ℕ). length (started_sends sim c.args.w k)) done in
     (λ _. omega (arith, inv.3, inv.4, all), λ _. refl)

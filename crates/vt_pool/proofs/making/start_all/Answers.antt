@@ -10,7 +10,7 @@ use Rattle.vt_steps.specs.promise.Letters.{stamped, signed}
 use Rattle.vt_steps.specs.promise.World.{process_at}
 use Rattle.vt_lp.specs.inside.Held.{AllWithinRun, IsWithinRun}
 use Rattle.vt_outbox.specs.inside.Outbox.{HeldOutbox}
-use Rattle.vt_kernel.proofs.MakeLemmas.{started_sends, started-more, places-done, place-own, stamped-append, few-sent}
+use Rattle.vt_kernel.proofs.MakeLemmas.{started_sends, started-more, indices-done, index-own, stamped-append, few-sent}
 use Rattle.vt_pool.specs.inside.View.{number_at}
 use Rattle.vt_pool.specs.inside.Opening.{AreStarted, IsStarted}
 use Rattle.vt_pool.proofs.OpeningLemmas as opening
@@ -32,7 +32,7 @@ loop-p-preserved g c =
     let counted : length c.push.new.self.items ≡ length (items ++ q ∷ []) = ap length pushed in
     let len : length c.push.new.self.items ≡ suc n = omega (arith, counted, longer) in
     let here : process_at sim w n ≡ p = sym inv.at in
-    let own : p % config.workers ≡ w = place-own config.workers w n p c.requires.known inv.at in
+    let own : p % config.workers ≡ w = index-own config.workers w n p c.requires.known inv.at in
     let before = started_sends sim w n in
     let sends = (sim.start p).sends in
     let more : started_sends sim w (suc n) ≡ before ++ sends = started-more sim w n ∙ ap (λ (k : ℕ). before ++ (sim.start k).sends) here in
@@ -68,21 +68,21 @@ overflow_add-serial g c = omega (arith, c.len.ensures, c.in-Ok.ensures.all, c.in
 pub returns-clause-count : goal.returns-clause-count
 returns-clause-count g c =
     let inv = c.loop-p.invariant in
-    places-done c.args.config.lps c.args.config.workers c.args.w (length c.loop-p.processes.items) c.loop-p.p c.requires.known inv.at c.loop-p-test.false inv.near
+    indices-done c.args.config.lps c.args.config.workers c.args.w (length c.loop-p.processes.items) c.loop-p.p c.requires.known inv.at c.loop-p-test.false inv.near
 
 pub returns-clause-outbox : goal.returns-clause-outbox
 returns-clause-outbox g c =
     let inv = c.loop-p.invariant in
     let config = c.args.config in
     let sim = simulation_of (g.M.Model.handlers c.args.model.now) config in
-    let done = places-done config.lps config.workers c.args.w (length c.loop-p.processes.items) c.loop-p.p c.requires.known inv.at c.loop-p-test.false inv.near in
+    let done = indices-done config.lps config.workers c.args.w (length c.loop-p.processes.items) c.loop-p.p c.requires.known inv.at c.loop-p-test.false inv.near in
     inv.outbox ∙ (λ j. record { config = config; letters = map (signed Plus) (stamped c.args.w 0 (started_sends sim c.args.w (done j))) })
 
 pub returns-clause-serial : goal.returns-clause-serial
 returns-clause-serial g c =
     let inv = c.loop-p.invariant in
     let sim = simulation_of (g.M.Model.handlers c.args.model.now) c.args.config in
-    let done = places-done c.args.config.lps c.args.config.workers c.args.w (length c.loop-p.processes.items) c.loop-p.p c.requires.known inv.at c.loop-p-test.false inv.near in
+    let done = indices-done c.args.config.lps c.args.config.workers c.args.w (length c.loop-p.processes.items) c.loop-p.p c.requires.known inv.at c.loop-p-test.false inv.near in
     inv.serial ∙ ap (λ (k : ℕ). length (started_sends sim c.args.w k)) done
 
 pub returns-clause-few : goal.returns-clause-few
@@ -91,7 +91,7 @@ returns-clause-few g c =
     let model = c.args.model.now in
     let config = c.args.config in
     let sim = simulation_of (g.M.Model.handlers model) config in
-    let done = places-done config.lps config.workers c.args.w (length c.loop-p.processes.items) c.loop-p.p c.requires.known inv.at c.loop-p-test.false inv.near in
+    let done = indices-done config.lps config.workers c.args.w (length c.loop-p.processes.items) c.loop-p.p c.requires.known inv.at c.loop-p-test.false inv.near in
     let all = inv.serial ∙ ap (λ (k : ℕ). length (started_sends sim c.args.w k)) done in
     let few = few-sent (g.M.Model.handlers model) config (g.met.M.Model.start_within model) (g.met.M.Model.forward_within model) c.args.w c.requires.known in
     omega (arith, all, few, config.few_processes, config.few_workers)

@@ -3,7 +3,7 @@ use Rattle.vt_key.specs.promise.Queues.{letter_rank}
 use Rattle.vt_key.specs.declared.letter.Letter.{Letter}
 use Rattle.vt_key.specs.declared.letter.Mail.{Mail}
 use Rattle.vt_key.specs.declared.letter.Sign.TheVariants.{Plus}
-use Rattle.vt_steps.proofs.lists.Places.{get-within}
+use Rattle.vt_steps.proofs.lists.Indices.{get-within}
 use Rattle.vt_pool.specs.inside.Inside.{AreSettled, IsHeard}
 use Rattle.vt_pool.specs.inside.Pool.{MayCome, holds_stamp, with_letter}
 use Rattle.vt_pool.specs.inside.Share.{HeldPool, PoolLeadsTo}

@@ -50,10 +50,10 @@ returns-then-not-is_due-clause-room c =
 
 pub returns-then-not-is_due-clause-ended : goal.returns-then-not-is_due-clause-ended
 returns-then-not-is_due-clause-ended c is =
-    let place = (goal.at.returns-then-not-is_due-clause-ended c).After-is_due in
+    let found = (goal.at.returns-then-not-is_due-clause-ended c).After-is_due in
     let others = rows_of_runs (heap_items c.pop.new.self) in
     let left = rows_of_runs (heap_items c.put_back.new.runs) in
-    let none = none-due c.args.time c.in-Some.run' others (is-run place) (first place) (sym c.is_due.ensures ∙ c.if-not-is_due.true) in
+    let none = none-due c.args.time c.in-Some.run' others (is-run found) (first found) (sym c.is_due.ensures ∙ c.if-not-is_due.true) in
     same-none (rows_before c.args.time left) (λ f. same-before c.args.time left (run_rows c.in-Some.run' ++ others) c.put_back.ensures.rows f ∙ ap (sum_by f) none)
 
 -- ---- where it is

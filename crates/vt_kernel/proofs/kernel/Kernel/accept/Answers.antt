@@ -15,13 +15,13 @@ use Rattle.vt_lp.specs.inside.Guards.{holds_letter, IsDone as ProcessIsDone}
 use Rattle.vt_kernel.specs.inside.Held.{HeldWorker, IsOwnMail, AllOwnMail, IsWorkerInside}
 use Rattle.vt_kernel.specs.inside.Guards.{IsDone, IsAcceptRefusal}
 use Rattle.vt_kernel.proofs.PartLemmas.{stands_along}
-use Rattle.vt_kernel.proofs.LocalLemmas.{view_of, place-within, inside-changed, written-same}
+use Rattle.vt_kernel.proofs.LocalLemmas.{view_of, index-within, inside-changed, written-same}
 use Rattle.vt_kernel.proofs.InsideLemmas.{inside-arrived}
 use Rattle.vt_lp.proofs.AcceptLemmas.{accept-none}
 use Rattle.vt_kernel.proofs.DeliveryLemmas.{accept-done, accept-nothing, accept-refused, accept-lawful, removed-all}
 use Rattle.vt_kernel.proofs.ReentryLemmas.{IsOwnLetter, process-there, may-accept, addressed}
 use Rattle.vt_kernel.proofs.kernel.Kernel.accept.Given.{Over}
-use Rattle.vt_kernel.proofs.kernel.Kernel.accept.Goals.{After-index-place, After-index_mut}
+use Rattle.vt_kernel.proofs.kernel.Kernel.accept.Goals.{After-index-index, After-index_mut}
 use Rattle.vt_kernel.proofs.kernel.Kernel.accept.Goals as goal
 
 pub returns-in_default-clause-refused : goal.returns-in_default-clause-refused
@@ -31,19 +31,19 @@ returns-in_default-clause-refused g c handlers part s =
     subst (λ (v : HeldWorker _ _ _). IsAcceptRefusal (local_step (simulation_of handlers v.config) v.worker (step.Accept v.worker c.args.i) part) NotLawful) c.self.view_is
     (subst (λ x. IsAcceptRefusal x NotLawful) (sym (accept-nothing handlers (view_of i) c.self.invariant.own_processes part (stands_along c.self.view_is handlers part s) c.args.i (slice_get_past i.arrived.items c.args.i past))) refl)
 
--- the mail is there, and the place is that of its process
-mail-there : (g : Over) (c : After-index-place g) → (slice_get c.self.inside.arrived.items c.args.i ≡ Some c.in-Some.mail.now) × IsOwnLetter c.self.invariant c.in-Some.mail.now.letter c.index-place.result
-mail-there g c = addressed c.self.invariant _ c.deref.ensures.value (sym c.in-Some.ensures.lookup.0) c.in-Some.ensures.lookup.1 c.index-place.ensures
+-- the mail is there, and the index is that of its process
+mail-there : (g : Over) (c : After-index-index g) → (slice_get c.self.inside.arrived.items c.args.i ≡ Some c.in-Some.mail.now) × IsOwnLetter c.self.invariant c.in-Some.mail.now.letter c.index-index.result
+mail-there g c = addressed c.self.invariant _ c.deref.ensures.value (sym c.in-Some.ensures.lookup.0) c.in-Some.ensures.lookup.1 c.index-index.ensures
 
 pub index-requires : goal.index-requires
 index-requires g c =
-    let less = place-within c.self.invariant (mail-there g (goal.at.index-requires g c).After-index-place).1.own in
+    let less = index-within c.self.invariant (mail-there g (goal.at.index-requires g c).After-index-index).1.own in
     search (rules, less)
 
 pub returns-in_default-new-clause-refused : goal.returns-in_default-new-clause-refused
 returns-in_default-new-clause-refused g c handlers part s =
     let i = c.self.inside in
-    let mail = mail-there g (goal.at.returns-in_default-new-clause-refused g c).After-index-place in
+    let mail = mail-there g (goal.at.returns-in_default-new-clause-refused g c).After-index-index in
     let letter = c.in-Some.mail.now.letter in
     let q = c.index.result.now in
     let at = process-there c.self.invariant mail.1.own (sym c.index.ensures) in
@@ -63,36 +63,36 @@ returns-in_default-new-clause-refused g c handlers part s =
 
 pub index_mut-requires : goal.index_mut-requires
 index_mut-requires g c =
-    let less = place-within c.self.invariant (mail-there g (goal.at.index_mut-requires g c).After-index-place).1.own in
+    let less = index-within c.self.invariant (mail-there g (goal.at.index_mut-requires g c).After-index-index).1.own in
     search (rules, less)
 
 -- the process is there
-there : (g : Over) (c : After-index_mut g) → slice_get c.self.inside.processes.items c.index-place.result ≡ Some c.index_mut.result.now
+there : (g : Over) (c : After-index_mut g) → slice_get c.self.inside.processes.items c.index-index.result ≡ Some c.index_mut.result.now
 there g c =
-    let mail = addressed c.self.invariant _ c.deref.ensures.value (sym c.in-Some.ensures.lookup.0) c.in-Some.ensures.lookup.1 c.index-place.ensures in
+    let mail = addressed c.self.invariant _ c.deref.ensures.value (sym c.in-Some.ensures.lookup.0) c.in-Some.ensures.lookup.1 c.index-index.ensures in
     process-there c.self.invariant mail.1.own (sym c.index_mut.ensures.value)
 
 pub accept-requires-clause-dest : goal.accept-requires-clause-dest
 accept-requires-clause-dest g c κs within =
     let at = goal.at.accept-requires-clause-dest g c in
-    ap (λ (l : Letter _). l.event.dest) c.in-Ok.ensures.made ∙ (may-accept c.self.invariant (mail-there g at.After-index-place).1 (there g at.After-index_mut)).0
+    ap (λ (l : Letter _). l.event.dest) c.in-Ok.ensures.made ∙ (may-accept c.self.invariant (mail-there g at.After-index-index).1 (there g at.After-index_mut)).0
 
 pub accept-requires-clause-soon : goal.accept-requires-clause-soon
 accept-requires-clause-soon g c κs within =
     let at = goal.at.accept-requires-clause-soon g c in
     subst (λ (l : Letter _). TimeBefore l.event.rank.key.time (end_of c.index_mut.result.now.config)) (sym c.in-Ok.ensures.made)
-    (may-accept c.self.invariant (mail-there g at.After-index-place).1 (there g at.After-index_mut)).1
+    (may-accept c.self.invariant (mail-there g at.After-index-index).1 (there g at.After-index_mut)).1
 
 pub invariant_of-self : goal.invariant_of-self
 invariant_of-self g c =
     let i = c.self.inside in
     subst (λ (ps : List (HeldProcess _ _ _)). IsWorkerInside i.config i.worker ps i.outbox i.arrived.items i.sent i.got i.serial)
-    (sym (written-same i.processes.items c.index-place.result c.index_mut.result.now c.accept.new.self (there g (goal.at.invariant_of-self g c).After-index_mut) c.in-Err.ensures.kept.2)) c.self.invariant
+    (sym (written-same i.processes.items c.index-index.result c.index_mut.result.now c.accept.new.self (there g (goal.at.invariant_of-self g c).After-index_mut) c.in-Err.ensures.kept.2)) c.self.invariant
 
 pub returns-in-Err-clause-refused : goal.returns-in-Err-clause-refused
 returns-in-Err-clause-refused g c handlers part s =
     let at = goal.at.returns-in-Err-clause-refused g c in
-    let mail = mail-there g at.After-index-place in
+    let mail = mail-there g at.After-index-index in
     let none = accept-refused handlers (view_of c.self.inside) c.self.invariant.own_processes part (stands_along c.self.view_is handlers part s) c.args.i mail.0 mail.1.own (there g at.After-index_mut)
     (λ process st. subst (λ (l : Letter _). accept_process l process ≡ None) c.in-Ok.ensures.made (c.in-Err.ensures.refused handlers process st)) in
     subst (λ (v : HeldWorker _ _ _). IsAcceptRefusal (local_step (simulation_of handlers v.config) v.worker (step.Accept v.worker c.args.i) part) c.in-Err.fault) c.self.view_is
@@ -111,10 +111,10 @@ pub returns-clause-done : goal.returns-clause-done
 returns-clause-done g c handlers part s =
     let i = c.self.inside in
     let at = goal.at.returns-clause-done g c in
-    let mail = mail-there g at.After-index-place in
+    let mail = mail-there g at.After-index-index in
     let new = c.accept.new.self in
     let same = c.in_default-accept.ensures.same in
-    let view = λ (ms : List (Mail _)). record (view_of i) { processes = slice_set i.processes.items c.index-place.result new; arrived = ms } in
+    let view = λ (ms : List (Mail _)). record (view_of i) { processes = slice_set i.processes.items c.index-index.result new; arrived = ms } in
     subst (λ (v : HeldWorker _ _ _). IsDone handlers (view c.remove.new.self.items) (local_step (simulation_of handlers v.config) v.worker (step.Accept v.worker c.args.i) part)) c.self.view_is
     (subst (λ (ms : List (Mail _)). IsDone handlers (view ms) (local_step (simulation_of handlers i.config) i.worker (step.Accept i.worker c.args.i) part)) (sym c.remove.ensures.items)
     (accept-done handlers (view_of i) c.self.invariant.own_processes part (stands_along c.self.view_is handlers part s) c.args.i new mail.0 mail.1.own (there g at.After-index_mut) (same.0, same.1)

@@ -11,7 +11,7 @@ use Rattle.vt_kernel.specs.inside.Held.{HeldWorker, process_of}
 use Rattle.vt_kernel.specs.inside.Guards.{IsDone, may_annihilate}
 use Rattle.vt_kernel.proofs.PartLemmas.{stands_along}
 use Rattle.vt_kernel.proofs.OwnSteps.{refused-at}
-use Rattle.vt_kernel.proofs.LocalLemmas.{view_of, place-within, inside-changed, unknown-refused, unknown-none, found-at, at-found-done, plain-done, written-same, own-process, other-process}
+use Rattle.vt_kernel.proofs.LocalLemmas.{view_of, index-within, inside-changed, unknown-refused, unknown-none, found-at, at-found-done, plain-done, written-same, own-process, other-process}
 use Rattle.vt_kernel.proofs.ReentryLemmas.{process-there}
 use Rattle.vt_kernel.proofs.kernel.Kernel.cancel.Given.{Over}
 use Rattle.vt_kernel.proofs.kernel.Kernel.cancel.Goals.{After-index_mut}
@@ -29,10 +29,10 @@ abbrev opposed : {S P K : Type 0} → Stamp → Option (HeldProcess S P K) → B
 opposed stamp o = option_map_or (λ (process : HeldProcess _ _ _). can_annihilate stamp process.pending process.waiting) o false
 
 pub index_mut-requires : goal.index_mut-requires
-index_mut-requires g c = search (rules, place-within c.self.invariant c.in-Some.ensures.own)
+index_mut-requires g c = search (rules, index-within c.self.invariant c.in-Some.ensures.own)
 
 -- the process is there
-there : (g : Over) (c : After-index_mut g) → slice_get c.self.inside.processes.items c.in-Some.place ≡ Some c.index_mut.result.now
+there : (g : Over) (c : After-index_mut g) → slice_get c.self.inside.processes.items c.in-Some.index ≡ Some c.index_mut.result.now
 there g c = process-there c.self.invariant c.in-Some.ensures.own (sym c.index_mut.ensures.value)
 
 pub invariant_of-self : goal.invariant_of-self
@@ -49,7 +49,7 @@ returns-clause-done g c handlers part s =
     let same = c.cancel.ensures.same in
     let h = stands_along c.self.view_is handlers part s in
     let f = found-at handlers (view_of i) c.self.invariant.own_processes part h own (there g (goal.at.returns-clause-done g c).After-index_mut) in
-    subst (λ (v : HeldWorker _ _ _). IfOk c.cancel.result (λ _. IsDone handlers (record (view_of i) { processes = slice_set i.processes.items c.in-Some.place new }) (local_step (simulation_of handlers v.config) v.worker (step.Cancel c.args.lp c.args.stamp) part))) c.self.view_is
+    subst (λ (v : HeldWorker _ _ _). IfOk c.cancel.result (λ _. IsDone handlers (record (view_of i) { processes = slice_set i.processes.items c.in-Some.index new }) (local_step (simulation_of handlers v.config) v.worker (step.Cancel c.args.lp c.args.stamp) part))) c.self.view_is
     (IfOk-weaker c.cancel.result _ _ (λ _ both. at-found-done handlers (view_of i) c.self.invariant.own_processes part h new i.outbox.letters i.serial (cancel_process c.args.stamp) own f (same.0, same.1)
     (plain-done handlers new (cancel_process c.args.stamp f.process) i.outbox.letters i.serial both)) (c.cancel.ensures.done handlers f.process f.stands))
 
@@ -67,7 +67,7 @@ returns-clause-kept g c =
     let at = there g (goal.at.returns-clause-kept g c).After-index_mut in
     IfErr-weaker c.cancel.result _ _ (λ _ kept. (
       kept.0,
-      (λ j. record (view_of i) { processes = written-same i.processes.items c.in-Some.place c.index_mut.result.now c.cancel.new.self at kept.1 j }) ∙ c.self.view_is,
+      (λ j. record (view_of i) { processes = written-same i.processes.items c.in-Some.index c.index_mut.result.now c.cancel.new.self at kept.1 j }) ∙ c.self.view_is,
     )) c.cancel.ensures.kept
 
 pub returns-in_default-clause-unlawful : goal.returns-in_default-clause-unlawful

@@ -8,7 +8,7 @@ use Rattle.vt_steps.specs.promise.World.{Part}
 use Rattle.vt_steps.specs.promise.ProcessSteps.{execute_process}
 use Rattle.vt_steps.specs.inside.Cells.{local_step}
 use Rattle.vt_steps.specs.declared.step.Step.TheVariants as step
-use Rattle.vt_steps.proofs.lists.Places.{get-put_same}
+use Rattle.vt_steps.proofs.lists.Indices.{get-put_same}
 use Rattle.vt_lp.specs.inside.Held.{HeldProcess}
 use Rattle.vt_lp.specs.inside.Guards.{IsDone as ProcessIsDone, IsExecuteRefusal as ProcessRefusal}
 use Rattle.vt_kernel.specs.inside.Held.{HeldWorker, StandsFor, process_of}
@@ -17,7 +17,7 @@ use Rattle.vt_kernel.specs.promise.Refusals.{PassesIn}
 use Rattle.vt_kernel.proofs.PartLemmas.{stands_along}
 use Rattle.vt_kernel.proofs.ProcessLemmas.{process-at, processes-changed}
 use Rattle.vt_kernel.proofs.OwnSteps.{own-execute, IsFound, within-limits, same-execute, refusal-at, own-step}
-use Rattle.vt_kernel.proofs.LocalLemmas.{view_of, place-within, unknown-refused, either-way, found-at, at-found-done, execute-step, both-errors, own-process, other-process}
+use Rattle.vt_kernel.proofs.LocalLemmas.{view_of, index-within, unknown-refused, either-way, found-at, at-found-done, execute-step, both-errors, own-process, other-process}
 use Rattle.vt_kernel.proofs.PutLemmas.{put-done, put-kept, put-seen, inside-put}
 use Rattle.vt_kernel.proofs.ReentryLemmas.{process-there}
 use Rattle.vt_kernel.proofs.kernel.Kernel.execute.Given.{Over}
@@ -25,10 +25,10 @@ use Rattle.vt_kernel.proofs.kernel.Kernel.execute.Goals.{After-index_mut, After-
 use Rattle.vt_kernel.proofs.kernel.Kernel.execute.Goals as goal
 
 pub index_mut-requires : goal.index_mut-requires
-index_mut-requires g c = search (rules, place-within c.self.invariant c.in-Some.ensures.own)
+index_mut-requires g c = search (rules, index-within c.self.invariant c.in-Some.ensures.own)
 
 -- the process is there
-there : (g : Over) (c : After-index_mut g) → slice_get c.self.inside.processes.items c.in-Some.place ≡ Some c.index_mut.result.now
+there : (g : Over) (c : After-index_mut g) → slice_get c.self.inside.processes.items c.in-Some.index ≡ Some c.index_mut.result.now
 there g c = process-there c.self.invariant c.in-Some.ensures.own (sym c.index_mut.ensures.value)
 
 pub execute-result-requires-send-M-Payload : goal.execute-result-requires-send-M-Payload
@@ -68,7 +68,7 @@ returns-clause-done g c part s =
     let h = stands_along c.self.view_is handlers part s in
     let f = executes g (goal.at.returns-clause-done g c).After-index_mut part s in
     let one = same-execute handlers held part c.args.lp c.index_mut.result.now f.process h own.1 f.lp f.config in
-    let after = record held { processes = slice_set i.processes.items c.in-Some.place done.new.self; outbox = c.put.new.self.letters; serial = done.new.serial } in
+    let after = record held { processes = slice_set i.processes.items c.in-Some.index done.new.self; outbox = c.put.new.self.letters; serial = done.new.serial } in
     subst (λ (v : HeldWorker _ _ _). IfOk done.result (λ _. IsDone handlers after (local_step (simulation_of handlers v.config) v.worker (step.Execute c.args.lp) part))) c.self.view_is
     (IfOk-weaker done.result _ _ (λ _ sent.
     subst (λ x. IsDone handlers after x) (sym (own-execute (simulation_of handlers i.config) i.worker c.args.lp part))
@@ -84,11 +84,11 @@ returns-clause-counted g c part s =
     let new = c.execute-result.new.self in
     let at = there g (goal.at.returns-clause-counted g c).After-index_mut in
     let same = c.execute-result.ensures.same in
-    let who = process-at i.config i.worker 0 c.in-Some.place i.processes.items old c.self.invariant.own_processes at in
-    let processes = slice_set i.processes.items c.in-Some.place new in
+    let who = process-at i.config i.worker 0 c.in-Some.index i.processes.items old c.self.invariant.own_processes at in
+    let processes = slice_set i.processes.items c.in-Some.index new in
     let held = record (view_of i) { processes = processes; outbox = c.put.new.self.letters; serial = c.execute-result.new.serial } in
-    let are = processes-changed i.config i.worker 0 c.in-Some.place i.processes.items new c.self.invariant.own_processes (same.0 ∙ who.0) (same.1 ∙ who.1) in
-    let f = found-at handlers held are part s own (get-put_same i.processes.items c.in-Some.place old new at) in
+    let are = processes-changed i.config i.worker 0 c.in-Some.index i.processes.items new c.self.invariant.own_processes (same.0 ∙ who.0) (same.1 ∙ who.1) in
+    let f = found-at handlers held are part s own (get-put_same i.processes.items c.in-Some.index old new at) in
     subst (λ (v : HeldWorker _ _ _). IfOk c.execute-result.result (λ _. PassesIn (simulation_of handlers v.config) (step.Execute c.args.lp) part 0 → ⊥)) c.self.view_is
     (IfOk-weaker c.execute-result.result _ _ (λ _ counted. within-limits handlers held part c.args.lp new s f counted.0 counted.1) c.execute-result.ensures.counted)
 
@@ -115,7 +115,7 @@ returns-clause-refused g c part s =
 
 -- a worker is seen as before where its process, what that sent and the serial are as before
 as-before : (g : Over) (c : After-put g) → c.execute-result.new.self ≡ c.index_mut.result.now → c.execute-result.new.outbox ≡ c.new-sent.result → c.execute-result.new.serial ≡ c.self.inside.serial
-    → record (view_of c.self.inside) { processes = slice_set c.self.inside.processes.items c.in-Some.place c.execute-result.new.self; outbox = c.put.new.self.letters; serial = c.execute-result.new.serial } ≡ c.args.self.now
+    → record (view_of c.self.inside) { processes = slice_set c.self.inside.processes.items c.in-Some.index c.execute-result.new.self; outbox = c.put.new.self.letters; serial = c.execute-result.new.serial } ≡ c.args.self.now
 as-before g c same kept still =
     let at = process-there c.self.invariant c.in-Some.ensures.own (sym c.index_mut.ensures.value) in
     put-seen c.self.inside.outbox c.execute-result.new.outbox c.new-sent.ensures c.put.ensures (view_of c.self.inside) _ at refl same kept still ∙ c.self.view_is
@@ -144,7 +144,7 @@ pub returns-clause-but_processes : goal.returns-clause-but_processes
 returns-clause-but_processes g c =
     let i = c.self.inside in
     let done = c.execute-result in
-    let processes = slice_set i.processes.items c.in-Some.place done.new.self in
+    let processes = slice_set i.processes.items c.in-Some.index done.new.self in
     subst (λ (v : HeldWorker _ _ _). IfErr done.result (λ _. record (view_of i) { processes = processes; outbox = c.put.new.self.letters; serial = done.new.serial } ≡ record v { processes = processes })) c.self.view_is
     (IfErr-weaker done.result _ _ (λ _ kept j. record (view_of i) { processes = processes; outbox = put-kept i.outbox done.new.outbox c.new-sent.ensures c.put.ensures kept.0 j; serial = kept.1 j }) done.ensures.kept)
 

@@ -13,13 +13,13 @@ pub loop-process-preserved : goal.loop-process-preserved
 loop-process-preserved g c handlers part s =
     let now = c.args.self.now in
     let items = c.deref-process-items.result.now in
-    let place = c.loop-process.process-index in
+    let index = c.loop-process.process-index in
     let q : HeldProcess _ _ _ = c.process-item.result in
     let are : AreProcesses now.config now.worker 0 now.processes = subst (λ (v : HeldWorker _ _ _). AreProcesses v.config v.worker 0 v.processes) c.self.view_is c.self.invariant.own_processes in
-    let there : slice_get items place ≡ Some q = slice_get_read items _ place q refl c.loop-process-test.true c.process-item.is in
-    let at : slice_get now.processes place ≡ Some q = subst (λ (v : HeldWorker _ _ _). slice_get v.processes place ≡ Some q) c.self.view_is
-    (subst (λ (ps : List (HeldProcess _ _ _)). slice_get ps place ≡ Some q) c.deref-process-items.ensures.value there) in
-    rows-next handlers now part place q c.loop-process.rows.items c.ripe.new.rows.items s are at (c.loop-process.invariant handlers part s)
+    let there : slice_get items index ≡ Some q = slice_get_read items _ index q refl c.loop-process-test.true c.process-item.is in
+    let at : slice_get now.processes index ≡ Some q = subst (λ (v : HeldWorker _ _ _). slice_get v.processes index ≡ Some q) c.self.view_is
+    (subst (λ (ps : List (HeldProcess _ _ _)). slice_get ps index ≡ Some q) c.deref-process-items.ensures.value there) in
+    rows-next handlers now part index q c.loop-process.rows.items c.ripe.new.rows.items s are at (c.loop-process.invariant handlers part s)
     (λ h stands. c.in_ok-ripe.ensures.rows handlers h stands
     ∙ ap (λ (v : HeldWorker _ _ _). c.loop-process.rows.items ++ ripe_rows (simulation_of handlers q.config) q.lp v.floor h) c.self.view_is)
 

@@ -4,7 +4,7 @@ use Rattle.vt_steps.specs.promise.World.{Part}
 use Rattle.vt_kernel.specs.inside.Held.{HeldWorker, IsProcessOf, StandsFor}
 use Rattle.vt_kernel.specs.inside.Guards.{SettlesTo}
 use Rattle.vt_kernel.proofs.PartLemmas.{stands_along}
-use Rattle.vt_kernel.proofs.LocalLemmas.{view_of, place-within}
+use Rattle.vt_kernel.proofs.LocalLemmas.{view_of, index-within}
 use Rattle.vt_kernel.proofs.SettledWorker.{unknown-settled, settled-seen}
 use Rattle.vt_kernel.proofs.PutLemmas.{put-settled, inside-put}
 use Rattle.vt_kernel.proofs.ReentryLemmas.{process-there}
@@ -13,11 +13,11 @@ use Rattle.vt_kernel.proofs.kernel.Kernel.settle.Goals.{After-index_mut, After-p
 use Rattle.vt_kernel.proofs.kernel.Kernel.settle.Goals as goal
 
 -- the process is there
-there : (g : Over) (c : After-index_mut g) → slice_get c.self.inside.processes.items c.in-Some.place ≡ Some c.index_mut.result.now
+there : (g : Over) (c : After-index_mut g) → slice_get c.self.inside.processes.items c.in-Some.index ≡ Some c.index_mut.result.now
 there g c = process-there c.self.invariant c.in-Some.ensures.own (sym c.index_mut.ensures.value)
 
 pub index_mut-requires : goal.index_mut-requires
-index_mut-requires g c = search (rules, place-within c.self.invariant c.in-Some.ensures.own)
+index_mut-requires g c = search (rules, index-within c.self.invariant c.in-Some.ensures.own)
 
 pub returns-in_default-clause-settles : goal.returns-in_default-clause-settles
 returns-in_default-clause-settles g c part s =
@@ -38,7 +38,7 @@ invariant_of-self g c =
 -- what settles the process settles it at the worker
 settled : (g : Over) (c : After-put g) (part : Part _) → StandsFor (g.M.Model.handlers c.args.model.now) c.args.self.now part
     → (after : Part _) × SettlesTo (simulation_of (g.M.Model.handlers c.args.model.now) c.args.self.now.config) c.args.self.now.worker c.args.lp part after c.settle_process-undone.result
-    × StandsFor (g.M.Model.handlers c.args.model.now) (record (view_of c.self.inside) { processes = slice_set c.self.inside.processes.items c.in-Some.place c.settle_process-undone.new.process; outbox = c.put.new.self.letters }) after
+    × StandsFor (g.M.Model.handlers c.args.model.now) (record (view_of c.self.inside) { processes = slice_set c.self.inside.processes.items c.in-Some.index c.settle_process-undone.new.process; outbox = c.put.new.self.letters }) after
 settled g c part s =
     let settling = c.settle_process-undone in
     let at = process-there c.self.invariant c.in-Some.ensures.own (sym c.index_mut.ensures.value) in
@@ -48,11 +48,11 @@ settled g c part s =
 pub returns-clause-settles : goal.returns-clause-settles
 returns-clause-settles g c part s = settled g (goal.at.returns-clause-settles g c).After-put part s
 
--- a place is that of a process of the worker
-own-place : (g : Over) (c : After-index_mut g) → IsProcessOf c.args.self.now.config c.args.self.now.worker c.args.lp
-own-place g c =
+-- an index is that of a process of the worker
+own-index : (g : Over) (c : After-index_mut g) → IsProcessOf c.args.self.now.config c.args.self.now.worker c.args.lp
+own-index g c =
     subst (λ (v : HeldWorker _ _ _). IsProcessOf v.config v.worker c.args.lp) c.self.view_is
     (record { known = c.in-Some.ensures.own.2; own = c.in-Some.ensures.own.1 })
 
 pub returns-clause-other : goal.returns-clause-other
-returns-clause-other g c other = absurd (other (own-place g (goal.at.returns-clause-other g c).After-index_mut))
+returns-clause-other g c other = absurd (other (own-index g (goal.at.returns-clause-other g c).After-index_mut))

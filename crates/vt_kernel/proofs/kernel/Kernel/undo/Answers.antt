@@ -12,7 +12,7 @@ use Rattle.vt_lp.specs.inside.Held.{HeldProcess}
 use Rattle.vt_lp.specs.inside.Past.{must_undo_last}
 use Rattle.vt_kernel.proofs.PartLemmas.{stands_along}
 use Rattle.vt_kernel.proofs.OwnSteps.{refused-at}
-use Rattle.vt_kernel.proofs.LocalLemmas.{view_of, place-within, unknown-refused, unknown-none, found-at, at-found-done, no-serial, own-process, other-process}
+use Rattle.vt_kernel.proofs.LocalLemmas.{view_of, index-within, unknown-refused, unknown-none, found-at, at-found-done, no-serial, own-process, other-process}
 use Rattle.vt_kernel.proofs.PutLemmas.{put-done, put-seen, inside-put}
 use Rattle.vt_kernel.proofs.ReentryLemmas.{process-there}
 use Rattle.vt_kernel.proofs.kernel.Kernel.undo.Given.{Over}
@@ -20,7 +20,7 @@ use Rattle.vt_kernel.proofs.kernel.Kernel.undo.Goals.{After-index_mut}
 use Rattle.vt_kernel.proofs.kernel.Kernel.undo.Goals as goal
 
 -- the process is there
-there : (g : Over) (c : After-index_mut g) → slice_get c.self.inside.processes.items c.in-Some.place ≡ Some c.index_mut.result.now
+there : (g : Over) (c : After-index_mut g) → slice_get c.self.inside.processes.items c.in-Some.index ≡ Some c.index_mut.result.now
 there g c = process-there c.self.invariant c.in-Some.ensures.own (sym c.index_mut.ensures.value)
 
 -- whether a process that may be there has to undo its last past event
@@ -28,7 +28,7 @@ abbrev forced : {S P K : Type 0} → Option (HeldProcess S P K) → Bool
 forced o = option_map_or (λ (process : HeldProcess _ _ _). must_undo_last process.pending process.waiting (last_or None process.past)) o false
 
 pub index_mut-requires : goal.index_mut-requires
-index_mut-requires g c = search (rules, place-within c.self.invariant c.in-Some.ensures.own)
+index_mut-requires g c = search (rules, index-within c.self.invariant c.in-Some.ensures.own)
 
 pub returns-in_default-clause-refused : goal.returns-in_default-clause-refused
 returns-in_default-clause-refused g c part s =
@@ -52,7 +52,7 @@ returns-clause-done g c part s =
     let done = c.undo-result in
     let h = stands_along c.self.view_is handlers part s in
     let f = found-at handlers (view_of i) c.self.invariant.own_processes part h own (there g (goal.at.returns-clause-done g c).After-index_mut) in
-    let after = record (view_of i) { processes = slice_set i.processes.items c.in-Some.place done.new.self; outbox = c.put.new.self.letters } in
+    let after = record (view_of i) { processes = slice_set i.processes.items c.in-Some.index done.new.self; outbox = c.put.new.self.letters } in
     subst (λ (v : HeldWorker _ _ _). IfOk done.result (λ _. IsDone handlers after (local_step (simulation_of handlers v.config) v.worker (step.Undo c.args.lp) part))) c.self.view_is
     (IfOk-weaker done.result _ _ (λ _ sent. at-found-done handlers (view_of i) c.self.invariant.own_processes part h done.new.self c.put.new.self.letters i.serial undo_process own f done.ensures.same
     (no-serial handlers done.new.self (undo_process f.process) i.outbox.letters c.put.new.self.letters i.serial (put-done i.outbox done.new.outbox c.new-sent.ensures c.put.ensures sent))) (done.ensures.done f.process f.stands))

@@ -5,6 +5,6 @@ use Rattle.vt_past.proofs.records.Records.set.Given as goal
 abbrev pub invariant-loop-record : goal.invariant-loop-record
 invariant-loop-record l = record {
   counted : l.count ≡ l.record-index;
-  long : length l.self-inside.places ≡ MAX_RECORDS;
-  written : take l.count l.self-inside.places ≡ take l.record-index l.records;
+  long : length l.self-inside.items ≡ MAX_RECORDS;
+  written : take l.count l.self-inside.items ≡ take l.record-index l.records;
 }

@@ -41,7 +41,7 @@ use Rattle.vt_pool.proofs.PoolLemmas.{streams-get}
 use Rattle.vt_pool.proofs.DeliveryLemmas.{IsWellDelivered, delivered, messages-of}
 use Rattle.vt_pool.proofs.ExecutionLemmas.{pool-executed, pool-taken_back, can-be, not-executed, has-executed, executed-leads, stays-leads, nodes-logged, IsTaken, taken}
 use Rattle.vt_pool.proofs.pool.Pool.execute_next.Given.{Over}
-use Rattle.vt_pool.proofs.pool.Pool.execute_next.Goals.{After-index-place, After-index_mut-process, After-put, After-keep, After-write-self-inside, After-index_mut, After-deliver}
+use Rattle.vt_pool.proofs.pool.Pool.execute_next.Goals.{After-index-index, After-index_mut-process, After-put, After-keep, After-write-self-inside, After-index_mut, After-deliver}
 use Rattle.vt_pool.proofs.pool.Pool.execute_next.Goals as goal
 
 -- where a process stands
@@ -59,25 +59,25 @@ abbrev view_of : {M S P K : Type 0} → Inside M S P K → HeldPool S P K
 view_of i = record { worker = i.worker; config = i.config; stock = stock_of i; outbox = i.outbox.letters; serial = i.serial; heard = i.heard.items }
 
 -- the letter that was taken out, and the process at its index
-facts : (g : Over) (c : After-index-place g)
-    → IsTaken c.self.inside.config c.self.inside.worker (stock_of c.self.inside) c.in-Some.letter c.take_first.new.self c.index-place.result
+facts : (g : Over) (c : After-index-index g)
+    → IsTaken c.self.inside.config c.self.inside.worker (stock_of c.self.inside) c.in-Some.letter c.take_first.new.self c.index-index.result
 facts g c =
     let i = c.self.inside in
-    taken c.in-Some.letter c.take_first.new.self c.index-place.result c.self.invariant.0.known c.self.invariant.0.inside
+    taken c.in-Some.letter c.take_first.new.self c.index-index.result c.self.invariant.0.known c.self.invariant.0.inside
     (subst (λ (v : HeldPool _ _ _). AreSettled v.stock) (sym c.self.view_is) c.requires.settled) c.in-Some.ensures
-    (c.index-place.ensures ∙ ap (λ (l : Letter _). l.event.dest / i.config.workers) c.get.ensures)
+    (c.index-index.ensures ∙ ap (λ (l : Letter _). l.event.dest / i.config.workers) c.get.ensures)
 
-within : (g : Over) (c : After-index-place g) → c.index-place.result < length c.self.inside.processes.items
+within : (g : Over) (c : After-index-index g) → c.index-index.result < length c.self.inside.processes.items
 within g c =
     let there = (facts g c).within in
     let count = length-map c.self.inside.processes.items (λ (q : Process _ _ _ _). standing q) in
     omega (arith, there, count)
 
 pub index_mut-process-requires : goal.index_mut-process-requires
-index_mut-process-requires g c = search (rules, within g (goal.at.index_mut-process-requires g c).After-index-place)
+index_mut-process-requires g c = search (rules, within g (goal.at.index_mut-process-requires g c).After-index-index)
 
-there : (g : Over) (c : After-index_mut-process g) → c.index-place.result < length c.self.inside.processes.items → slice_get c.self.inside.processes.items c.index-place.result ≡ Some c.index_mut-process.result.now
-there g c less = index-get c.self.inside.processes.items c.index-place.result c.index_mut-process.result.now less (sym c.index_mut-process.ensures.value)
+there : (g : Over) (c : After-index_mut-process g) → c.index-index.result < length c.self.inside.processes.items → slice_get c.self.inside.processes.items c.index-index.result ≡ Some c.index_mut-process.result.now
+there g c less = index-get c.self.inside.processes.items c.index-index.result c.index_mut-process.result.now less (sym c.index_mut-process.ensures.value)
 
 pub fire-requires-send-M-Payload : goal.fire-requires-send-M-Payload
 fire-requires-send-M-Payload g c = λ _ _. c.type_bounds.send-M-Payload
@@ -87,15 +87,15 @@ fire-requires-after_bounds g c κs within_bounds =
     let at = goal.at.fire-requires-after_bounds g c in
     let i = c.self.inside in
     let h = c.self.invariant.0 in
-    let t = facts g at.After-index-place in
-    let place = c.index-place.result in
+    let t = facts g at.After-index-index in
+    let index = c.index-index.result in
     let process = c.index_mut-process.result.now in
-    let got = there g at.After-index_mut-process (within g at.After-index-place) in
-    let few = every-get (λ (t : Triple _). t.number ≤ MAX_COUNT) (map standing i.processes.items) place (standing process) (get-map_of (λ (q : Process _ _ _ _). standing q) i.processes.items place process got) h.inside.few_sends in
-    let zero_on : 0 + place ≡ place = omega arith in
-    let stream : IsProcessStream i.config.seed (number_at i.config i.worker place) process.stream =
+    let got = there g at.After-index_mut-process (within g at.After-index-index) in
+    let few = every-get (λ (t : Triple _). t.number ≤ MAX_COUNT) (map standing i.processes.items) index (standing process) (get-map_of (λ (q : Process _ _ _ _). standing q) i.processes.items index process got) h.inside.few_sends in
+    let zero_on : 0 + index ≡ index = omega arith in
+    let stream : IsProcessStream i.config.seed (number_at i.config i.worker index) process.stream =
     subst (λ n. IsProcessStream i.config.seed (number_at i.config i.worker n) process.stream) zero_on
-    (streams-get i.config i.worker 0 place (map stream_of i.processes.items) process.stream h.own_streams (get-map_of (λ (q : Process _ _ _ _). stream_of q) i.processes.items place process got)) in
+    (streams-get i.config i.worker 0 index (map stream_of i.processes.items) process.stream h.own_streams (get-map_of (λ (q : Process _ _ _ _). stream_of q) i.processes.items index process got)) in
     let back = sym c.get.ensures in (
       out_fits _ _ g.met.M.Model.payload_align g.met.M.Model.payload_size,
       (
@@ -149,7 +149,7 @@ returns-in_default-clause-settled g c =
 -- ---- a refusal
 
 pub put-requires : goal.put-requires
-put-requires g c = none-after (letter_rank c.in-Some.letter) c.take_first.new.self (facts g (goal.at.put-requires g c).After-index-place).before
+put-requires g c = none-after (letter_rank c.in-Some.letter) c.take_first.new.self (facts g (goal.at.put-requires g c).After-index-index).before
 
 -- what is kept of the processes then, by where these stand
 stock-again : (g : Over) (c : After-put g) (triples : List (Triple _)) → AllByRecursion (λ l. RankBefore (letter_rank c.in-Some.letter) (letter_rank l)) c.take_first.new.self
@@ -164,24 +164,24 @@ pub invariant_of-self-in-Err : goal.invariant_of-self-in-Err
 invariant_of-self-in-Err g c =
     let at = goal.at.invariant_of-self-in-Err g c in
     let i = c.self.inside in
-    let place = c.index-place.result in
+    let index = c.index-index.result in
     let process = c.index_mut-process.result.now in
     let after = c.fire.new.process in
-    let t = facts g at.After-index-place in
-    let got = there g at.After-index_mut-process (within g at.After-index-place) in
-    let few = every-get (λ (t : Triple _). t.number ≤ MAX_COUNT) (map standing i.processes.items) place (standing process) (get-map_of (λ (q : Process _ _ _ _). standing q) i.processes.items place process got)
+    let t = facts g at.After-index-index in
+    let got = there g at.After-index_mut-process (within g at.After-index-index) in
+    let few = every-get (λ (t : Triple _). t.number ≤ MAX_COUNT) (map standing i.processes.items) index (standing process) (get-map_of (λ (q : Process _ _ _ _). standing q) i.processes.items index process got)
     c.self.invariant.0.inside.few_sends in
     let same = c.in-Err.ensures.but_state in
-    let pool = pool-taken_back (g.M.Model.handlers c.args.model.now) c.self.invariant.0 place (standing after) process.stream after.stream c.make_room-has_room.new.kept
-    (subst (λ n. n ≤ MAX_COUNT) (sym same.0) few) (get-map_of (λ (q : Process _ _ _ _). stream_of q) i.processes.items place process got)
+    let pool = pool-taken_back (g.M.Model.handlers c.args.model.now) c.self.invariant.0 index (standing after) process.stream after.stream c.make_room-has_room.new.kept
+    (subst (λ n. n ≤ MAX_COUNT) (sym same.0) few) (get-map_of (λ (q : Process _ _ _ _). stream_of q) i.processes.items index process got)
     c.fire.ensures.stream.0 c.fire.ensures.stream.1 c.make_room-has_room.ensures.more in
-    let triples = sym (map-put standing i.processes.items place after) in
-    let streams = sym (map-put stream_of i.processes.items place after) in
+    let triples = sym (map-put standing i.processes.items index after) in
+    let streams = sym (map-put stream_of i.processes.items index after) in
     let fits = coe 0 1 (j. IsPoolInside i.config i.worker (record (stock_of i) { triples = triples j }) (streams j) i.outbox i.serial i.reached i.heard.items c.make_room-has_room.new.kept) pool in (
-      subst (λ (stock : Stock _ _ _). IsPoolInside i.config i.worker stock (map stream_of (slice_set i.processes.items place after)) i.outbox i.serial i.reached i.heard.items c.make_room-has_room.new.kept)
-          (sym (stock-again g at.After-put (map standing (slice_set i.processes.items place after)) t.before)) fits,
+      subst (λ (stock : Stock _ _ _). IsPoolInside i.config i.worker stock (map stream_of (slice_set i.processes.items index after)) i.outbox i.serial i.reached i.heard.items c.make_room-has_room.new.kept)
+          (sym (stock-again g at.After-put (map standing (slice_set i.processes.items index after)) t.before)) fits,
       subst (AreMade i.serial) (sym c.make_room-has_room.ensures.same.0) c.self.invariant.1,
-      c.make_room-has_room.ensures.same.1 ∙ c.self.invariant.2 ∙ sym (length-set i.processes.items place after),
+      c.make_room-has_room.ensures.same.1 ∙ c.self.invariant.2 ∙ sym (length-set i.processes.items index after),
     )
 
 -- what contracts see then, by where the processes stand
@@ -195,34 +195,34 @@ seen-again g c triples before =
 pub returns-in-Err-clause-but_triples : goal.returns-in-Err-clause-but_triples
 returns-in-Err-clause-but_triples g c =
     let at = goal.at.returns-in-Err-clause-but_triples g c in
-    seen-again g at.After-put (map standing (slice_set c.self.inside.processes.items c.index-place.result c.fire.new.process)) (facts g at.After-index-place).before
+    seen-again g at.After-put (map standing (slice_set c.self.inside.processes.items c.index-index.result c.fire.new.process)) (facts g at.After-index-index).before
 
 -- where the pool stands for a part, the state of the letter's process can be
-is-state : (g : Over) (c : After-index_mut-process g) (t : IsTaken c.self.inside.config c.self.inside.worker (stock_of c.self.inside) c.in-Some.letter c.take_first.new.self c.index-place.result)
-    → slice_get c.self.inside.processes.items c.index-place.result ≡ Some c.index_mut-process.result.now
+is-state : (g : Over) (c : After-index_mut-process g) (t : IsTaken c.self.inside.config c.self.inside.worker (stock_of c.self.inside) c.in-Some.letter c.take_first.new.self c.index-index.result)
+    → slice_get c.self.inside.processes.items c.index-index.result ≡ Some c.index_mut-process.result.now
     → (rest : HeldShare _ _ _) (part : Part _) → StandsFor (g.M.Model.handlers c.args.model.now) (seen (with_pool rest (view_of c.self.inside))) part → g.M.Model.IsState c.args.model.now c.index_mut-process.result.now.state
 is-state g c t got rest part s =
     let i = c.self.inside in
-    can-be (g.M.Model.handlers c.args.model.now) (view_of i) c.self.invariant.0.known c.self.invariant.0.inside c.index-place.result (standing c.index_mut-process.result.now) c.in-Some.letter c.take_first.new.self
-    (get-map_of (λ (q : Process _ _ _ _). standing q) i.processes.items c.index-place.result c.index_mut-process.result.now got) c.in-Some.ensures t.number t.later
+    can-be (g.M.Model.handlers c.args.model.now) (view_of i) c.self.invariant.0.known c.self.invariant.0.inside c.index-index.result (standing c.index_mut-process.result.now) c.in-Some.letter c.take_first.new.self
+    (get-map_of (λ (q : Process _ _ _ _). standing q) i.processes.items c.index-index.result c.index_mut-process.result.now got) c.in-Some.ensures t.number t.later
     (g.M.Model.IsState c.args.model.now) (g.met.M.Model.start_state c.args.model.now) (g.met.M.Model.forward_state c.args.model.now) rest part s
 
 -- and then it is as before
 unchanged : (g : Over) (c : After-put g) → AllByRecursion (λ l. RankBefore (letter_rank c.in-Some.letter) (letter_rank l)) c.take_first.new.self
-    → slice_get c.self.inside.processes.items c.index-place.result ≡ Some c.index_mut-process.result.now → c.fire.new.process ≡ c.index_mut-process.result.now
-    → record (view_of c.self.inside) { stock = record { triples = map standing (slice_set c.self.inside.processes.items c.index-place.result c.fire.new.process); past = map (placed c.self.inside.worker) c.make_room-has_room.new.log.events; pending = c.put.new.self; waiting = c.self.inside.waiting } }
+    → slice_get c.self.inside.processes.items c.index-index.result ≡ Some c.index_mut-process.result.now → c.fire.new.process ≡ c.index_mut-process.result.now
+    → record (view_of c.self.inside) { stock = record { triples = map standing (slice_set c.self.inside.processes.items c.index-index.result c.fire.new.process); past = map (placed c.self.inside.worker) c.make_room-has_room.new.log.events; pending = c.put.new.self; waiting = c.self.inside.waiting } }
     ≡ c.args.self.now
 unchanged g c before got same =
     let i = c.self.inside in
-    let items = written-same i.processes.items c.index-place.result c.index_mut-process.result.now c.fire.new.process got same in
+    let items = written-same i.processes.items c.index-index.result c.index_mut-process.result.now c.fire.new.process got same in
     (λ j. record (view_of i) { stock = stock-again g c (map standing (items j)) before j }) ∙ c.self.view_is
 
 pub returns-in-Err-clause-unchanged : goal.returns-in-Err-clause-unchanged
 returns-in-Err-clause-unchanged g c rest part s =
     let at = goal.at.returns-in-Err-clause-unchanged g c in
     let handlers = g.M.Model.handlers c.args.model.now in
-    let t = facts g at.After-index-place in
-    let got = there g at.After-index_mut-process (within g at.After-index-place) in
+    let t = facts g at.After-index-index in
+    let got = there g at.After-index_mut-process (within g at.After-index-index) in
     let here = subst (λ (v : HeldPool _ _ _). StandsFor handlers (seen (with_pool rest v)) part) (sym c.self.view_is) s in
     unchanged g at.After-put t.before got (c.in-Err.ensures.unchanged (is-state g at.After-index_mut-process t got rest part here))
 
@@ -230,8 +230,8 @@ pub returns-in-Err-clause-leads : goal.returns-in-Err-clause-leads
 returns-in-Err-clause-leads g c =
     let at = goal.at.returns-in-Err-clause-leads g c in
     let handlers = g.M.Model.handlers c.args.model.now in
-    let t = facts g at.After-index-place in
-    let got = there g at.After-index_mut-process (within g at.After-index-place) in
+    let t = facts g at.After-index-index in
+    let got = there g at.After-index_mut-process (within g at.After-index-index) in
     stays-leads handlers c.args.self.now _ (ap (λ (v : HeldPool _ _ _). v.worker) c.self.view_is) (ap (λ (v : HeldPool _ _ _). v.config) c.self.view_is)
     (λ rest part s.
     (let here = subst (λ (v : HeldPool _ _ _). StandsFor handlers (seen (with_pool rest v)) part) (sym c.self.view_is) s in
@@ -242,15 +242,15 @@ returns-in-Err-clause-refused g c =
     let at = goal.at.returns-in-Err-clause-refused g c in
     let i = c.self.inside in
     let handlers = g.M.Model.handlers c.args.model.now in
-    let t = facts g at.After-index-place in
-    let place = c.index-place.result in
+    let t = facts g at.After-index-index in
+    let index = c.index-index.result in
     let process = c.index_mut-process.result.now in
-    let got = there g at.After-index_mut-process (within g at.After-index-place) in
+    let got = there g at.After-index_mut-process (within g at.After-index-index) in
     let why = subst (λ p. IsAdvanceRefusal (fired_by handlers i.config p (standing process) c.in-Some.letter.event) i.serial c.in-Err.fault) t.number
     (subst (λ (l : Letter _). IsAdvanceRefusal (fired_by handlers i.config l.event.dest (standing process) l.event) i.serial c.in-Err.fault) c.get.ensures c.in-Err.ensures.refused) in
     subst (λ (v : HeldPool _ _ _). IsNotExecuted handlers v c.in-Err.fault) c.self.view_is
-    (not-executed handlers (view_of i) c.self.invariant.0.known c.self.invariant.0.inside place (standing process) c.in-Some.letter c.take_first.new.self
-    (get-map_of (λ (q : Process _ _ _ _). standing q) i.processes.items place process got) c.in-Some.ensures t.number t.later c.in-Err.fault why)
+    (not-executed handlers (view_of i) c.self.invariant.0.known c.self.invariant.0.inside index (standing process) c.in-Some.letter c.take_first.new.self
+    (get-map_of (λ (q : Process _ _ _ _). standing q) i.processes.items index process got) c.in-Some.ensures t.number t.later c.in-Err.fault why)
 
 pub returns-in-Err-clause-faults : goal.returns-in-Err-clause-faults
 returns-in-Err-clause-faults g c = elim c.in-Err.ensures.refused [ inl x ↦ inl x.0 | inr x ↦ inr x.0 ]
@@ -258,14 +258,14 @@ returns-in-Err-clause-faults g c = elim c.in-Err.ensures.refused [ inl x ↦ inl
 pub returns-in-Err-clause-settled : goal.returns-in-Err-clause-settled
 returns-in-Err-clause-settled g c =
     let at = goal.at.returns-in-Err-clause-settled g c in
-    let triples = map standing (slice_set c.self.inside.processes.items c.index-place.result c.fire.new.process) in
-    subst (λ (v : HeldPool _ _ _). AreSettled v.stock) (sym (seen-again g at.After-put triples (facts g at.After-index-place).before)) c.requires.settled
+    let triples = map standing (slice_set c.self.inside.processes.items c.index-index.result c.fire.new.process) in
+    subst (λ (v : HeldPool _ _ _). AreSettled v.stock) (sym (seen-again g at.After-put triples (facts g at.After-index-index).before)) c.requires.settled
 
 -- ---- it is executed
 
 -- what the event left, said of the letter and its process
-fires : (g : Over) (c : After-write-self-inside g) → c.in-Some.letter.event.dest ≡ number_at c.self.inside.config c.self.inside.worker c.index-place.result
-    → IsFired (g.M.Model.handlers c.args.model.now) c.self.inside.config (number_at c.self.inside.config c.self.inside.worker c.index-place.result) c.in-Some.letter.event c.self.inside.serial
+fires : (g : Over) (c : After-write-self-inside g) → c.in-Some.letter.event.dest ≡ number_at c.self.inside.config c.self.inside.worker c.index-index.result
+    → IsFired (g.M.Model.handlers c.args.model.now) c.self.inside.config (number_at c.self.inside.config c.self.inside.worker c.index-index.result) c.in-Some.letter.event c.self.inside.serial
     (standing c.index_mut-process.result.now) (standing c.fire.new.process) c.in-Ok.entry c.fire.new.out.sends c.fire.new.out.records
 fires g c number =
     let i = c.self.inside in
@@ -285,7 +285,7 @@ pub write-self-inside-requires : goal.write-self-inside-requires
 write-self-inside-requires g c =
     let at = goal.at.write-self-inside-requires g c in
     let fired = c.in-Ok.ensures.fired in
-    let less = within g at.After-index-place in
+    let less = within g at.After-index-index in
     let same = c.make_room-has_room.ensures.same.1 in
     let all = c.self.invariant.2 in
     let counted = fired.counted in
@@ -297,10 +297,10 @@ write-self-inside-requires g c =
 -- the past events then
 past-then : (g : Over) (c : After-write-self-inside g)
     → map (placed c.self.inside.worker) c.write-self-inside.new.log.events
-    ≡ map (placed c.self.inside.worker) c.self.inside.log.events ++ record { place = c.index-place.result; event = past_of c.self.inside.worker c.in-Ok.entry c.fire.new.out.sends c.fire.new.out.records } ∷ []
+    ≡ map (placed c.self.inside.worker) c.self.inside.log.events ++ record { index = c.index-index.result; event = past_of c.self.inside.worker c.in-Ok.entry c.fire.new.out.sends c.fire.new.out.records } ∷ []
 past-then g c =
     let i = c.self.inside in
-    let e : Logged _ _ = record { process = c.index-place.result; entry = c.in-Ok.entry; sends = c.fire.new.out.sends; records = c.fire.new.out.records } in
+    let e : Logged _ _ = record { process = c.index-index.result; entry = c.in-Ok.entry; sends = c.fire.new.out.sends; records = c.fire.new.out.records } in
     ap (map (placed i.worker)) (c.write-self-inside.ensures.events ∙ ap (λ (es : List (Logged _ _)). es ++ e ∷ []) c.make_room-has_room.ensures.same.0)
     ∙ map-append (placed i.worker) i.log.events (e ∷ [])
 
@@ -343,20 +343,20 @@ deliver-requires g c =
     }
 
 -- where that leads
-well : (g : Over) (c : After-deliver g) (t : IsTaken c.self.inside.config c.self.inside.worker (stock_of c.self.inside) c.in-Some.letter c.take_first.new.self c.index-place.result)
-    → slice_get c.self.inside.processes.items c.index-place.result ≡ Some c.index_mut-process.result.now
-    → IsFired (g.M.Model.handlers c.args.model.now) c.self.inside.config (number_at c.self.inside.config c.self.inside.worker c.index-place.result) c.in-Some.letter.event c.self.inside.serial
+well : (g : Over) (c : After-deliver g) (t : IsTaken c.self.inside.config c.self.inside.worker (stock_of c.self.inside) c.in-Some.letter c.take_first.new.self c.index-index.result)
+    → slice_get c.self.inside.processes.items c.index-index.result ≡ Some c.index_mut-process.result.now
+    → IsFired (g.M.Model.handlers c.args.model.now) c.self.inside.config (number_at c.self.inside.config c.self.inside.worker c.index-index.result) c.in-Some.letter.event c.self.inside.serial
     (standing c.index_mut-process.result.now) (standing c.fire.new.process) c.in-Ok.entry c.fire.new.out.sends c.fire.new.out.records
     → sum_by nodes_of (map (placed c.self.inside.worker) c.self.inside.log.events) + 2 * MAX_SENDS + 1 ≤ c.keep.new.self
     → slice_get c.self.inside.heard.items c.self.inside.worker ≡ Some c.index_mut.result.now → AreSettled (stock_of c.self.inside)
-    → IsWellDelivered (g.M.Model.handlers c.args.model.now) c.self.inside.config c.self.inside.worker (slice_set (map stream_of c.self.inside.processes.items) c.index-place.result c.fire.new.process.stream)
+    → IsWellDelivered (g.M.Model.handlers c.args.model.now) c.self.inside.config c.self.inside.worker (slice_set (map stream_of c.self.inside.processes.items) c.index-index.result c.fire.new.process.stream)
     c.self.inside.outbox.config (c.self.inside.serial + length c.fire.new.out.sends) c.later-self-inside.result c.deliver.new.kept
-    (executed_in c.index-place.result (past_of c.self.inside.worker c.in-Ok.entry c.fire.new.out.sends c.fire.new.out.records) c.take_first.new.self (standing c.fire.new.process) (stock_of c.self.inside))
+    (executed_in c.index-index.result (past_of c.self.inside.worker c.in-Ok.entry c.fire.new.out.sends c.fire.new.out.records) c.take_first.new.self (standing c.fire.new.process) (stock_of c.self.inside))
     (map (signed Plus) (stamped c.self.inside.worker c.self.inside.serial c.fire.new.out.sends)) c.self.inside.outbox.letters c.self.inside.heard.items c.deliver.new.calendar c.deliver.new.outbox.letters c.deliver.new.most
 well g c t got fired nodes there settled =
     let i = c.self.inside in
     let handlers = g.M.Model.handlers c.args.model.now in
-    let place = c.index-place.result in
+    let index = c.index-index.result in
     let process = c.index_mut-process.result.now in
     let after = c.fire.new.process in
     let letter = c.in-Some.letter in
@@ -369,23 +369,23 @@ well g c t got fired nodes there settled =
     let soon : TimeAtMost letter.event.rank.key.time c.later-self-inside.result =
     subst (λ (l : Letter _). TimeAtMost l.event.rank.key.time c.later-self-inside.result) c.get.ensures (subst (λ n. TimeAtMost n c.later-self-inside.result) c.when.ensures c.later-self-inside.ensures.second) in
     let letters = map (signed Plus) (stamped i.worker i.serial sends) in
-    let pool = pool-executed handlers c.self.invariant.0 place (standing process) (standing after) letter rest c.in-Ok.entry sends c.fire.new.out.records process.stream after.stream c.later-self-inside.result
+    let pool = pool-executed handlers c.self.invariant.0 index (standing process) (standing after) letter rest c.in-Ok.entry sends c.fire.new.out.records process.stream after.stream c.later-self-inside.result
     (record i.outbox { letters = i.outbox.letters ++ letters }) (i.serial + length sends) c.deliver.new.kept fired t.known t.mine.signed c.in-Some.ensures t.later
-    (get-map_of (λ (q : Process _ _ _ _). stream_of q) i.processes.items place process got) c.fire.ensures.stream.0 c.fire.ensures.stream.1 c.later-self-inside.ensures.first soon refl refl (omega (arith, nodes, few, used, count)) in
+    (get-map_of (λ (q : Process _ _ _ _). stream_of q) i.processes.items index process got) c.fire.ensures.stream.0 c.fire.ensures.stream.1 c.later-self-inside.ensures.first soon refl refl (omega (arith, nodes, few, used, count)) in
     let brought : event.letter ≡ letter = λ j. record { event = fired.event_is j; sign = sym t.mine.signed j } in
-    let calm = executed-settled c.self.invariant.0.known c.self.invariant.0.inside place letter rest event (standing after) c.in-Some.ensures brought settled in
+    let calm = executed-settled c.self.invariant.0.known c.self.invariant.0.inside index letter rest event (standing after) c.in-Some.ensures brought settled in
     let done = subst (λ (xs : List (Sent _)). AreDelivered i.config i.worker c.later-self-inside.result (map (signed Plus) (stamped i.worker i.serial xs)) rest i.outbox.letters c.index_mut.result.now c.deliver.new.calendar c.deliver.new.outbox.letters c.deliver.new.most)
     c.sends.ensures c.deliver.ensures.delivered in
-    delivered handlers i.config i.worker (slice_set (map stream_of i.processes.items) place after.stream) i.outbox.config (i.serial + length sends) c.later-self-inside.result c.deliver.new.kept letters
-    (executed_in place event rest (standing after) (stock_of i)) i.outbox.letters i.heard.items c.index_mut.result.now pool calm there (messages-of i.worker i.serial sends) c.deliver.new.calendar c.deliver.new.outbox.letters c.deliver.new.most done
+    delivered handlers i.config i.worker (slice_set (map stream_of i.processes.items) index after.stream) i.outbox.config (i.serial + length sends) c.later-self-inside.result c.deliver.new.kept letters
+    (executed_in index event rest (standing after) (stock_of i)) i.outbox.letters i.heard.items c.index_mut.result.now pool calm there (messages-of i.worker i.serial sends) c.deliver.new.calendar c.deliver.new.outbox.letters c.deliver.new.most done
 
 -- what is kept of the processes then
 stock-then : (g : Over) (c : After-write-self-inside g) (pending : List (Letter _))
-    → record { triples = map standing (slice_set c.self.inside.processes.items c.index-place.result c.fire.new.process); past = map (placed c.self.inside.worker) c.write-self-inside.new.log.events; pending = pending; waiting = c.self.inside.waiting }
-    ≡ executed_in c.index-place.result (past_of c.self.inside.worker c.in-Ok.entry c.fire.new.out.sends c.fire.new.out.records) pending (standing c.fire.new.process) (stock_of c.self.inside)
+    → record { triples = map standing (slice_set c.self.inside.processes.items c.index-index.result c.fire.new.process); past = map (placed c.self.inside.worker) c.write-self-inside.new.log.events; pending = pending; waiting = c.self.inside.waiting }
+    ≡ executed_in c.index-index.result (past_of c.self.inside.worker c.in-Ok.entry c.fire.new.out.sends c.fire.new.out.records) pending (standing c.fire.new.process) (stock_of c.self.inside)
 stock-then g c pending =
     let i = c.self.inside in
-    let triples = map-put standing i.processes.items c.index-place.result c.fire.new.process in
+    let triples = map-put standing i.processes.items c.index-index.result c.fire.new.process in
     let past = past-then g c in
     λ j. record { triples = triples j; past = past j; pending = pending; waiting = i.waiting }
 
@@ -393,18 +393,18 @@ pub invariant_of-self-2 : goal.invariant_of-self-2
 invariant_of-self-2 g c =
     let at = goal.at.invariant_of-self-2 g c in
     let i = c.self.inside in
-    let place = c.index-place.result in
+    let index = c.index-index.result in
     let after = c.fire.new.process in
-    let t = facts g at.After-index-place in
-    let got = there g at.After-index_mut-process (within g at.After-index-place) in
+    let t = facts g at.After-index-index in
+    let got = there g at.After-index_mut-process (within g at.After-index-index) in
     let settled = subst (λ (v : HeldPool _ _ _). AreSettled v.stock) (sym c.self.view_is) c.requires.settled in
     let d = well g at.After-deliver t got (fires g at.After-write-self-inside t.number) (nodes-before g at.After-keep) (most-there g at.After-index_mut) settled in
     let stock = sym (stock-then g at.After-write-self-inside c.deliver.new.calendar) in
-    let streams = sym (map-put stream_of i.processes.items place after) in
+    let streams = sym (map-put stream_of i.processes.items index after) in
     let next = serial-then g at.After-write-self-inside in
     let serial = sym next in
     let config = sym c.deliver.ensures.sorted in
-    let e : Logged _ _ = record { process = place; entry = c.in-Ok.entry; sends = c.fire.new.out.sends; records = c.fire.new.out.records } in
+    let e : Logged _ _ = record { process = index; entry = c.in-Ok.entry; sends = c.fire.new.out.sends; records = c.fire.new.out.records } in
     let events = c.write-self-inside.ensures.events ∙ ap (λ (es : List (Logged _ _)). es ++ e ∷ []) c.make_room-has_room.ensures.same.0 in
     let made = every-append (λ (d : Logged _ _). d.entry.serial + length d.sends ≤ c.write-self-inside.result) i.log.events (e ∷ [])
     (every-weaker (λ (d : Logged _ _). d.entry.serial + length d.sends ≤ i.serial) (λ (d : Logged _ _). d.entry.serial + length d.sends ≤ c.write-self-inside.result) i.log.events (λ d early. omega (arith, early, next))
@@ -412,23 +412,23 @@ invariant_of-self-2 g c =
       coe 0 1 (j. IsPoolInside i.config i.worker (stock j) (streams j) (record { config = config j; letters = c.deliver.new.outbox.letters }) (serial j) c.later-self-inside.result (slice_set i.heard.items i.worker c.deliver.new.most)
           c.deliver.new.kept) d.inside,
       subst (AreMade c.write-self-inside.result) (sym events) made,
-      c.write-self-inside.ensures.processes ∙ c.make_room-has_room.ensures.same.1 ∙ c.self.invariant.2 ∙ sym (length-set i.processes.items place after),
+      c.write-self-inside.ensures.processes ∙ c.make_room-has_room.ensures.same.1 ∙ c.self.invariant.2 ∙ sym (length-set i.processes.items index after),
     )
 
 pub home_left-requires-clause-settled : goal.home_left-requires-clause-settled
 home_left-requires-clause-settled g c κs within_bounds =
     let at = goal.at.home_left-requires-clause-settled g c in
-    let t = facts g at.After-index-place in
-    let got = there g at.After-index_mut-process (within g at.After-index-place) in
+    let t = facts g at.After-index-index in
+    let got = there g at.After-index_mut-process (within g at.After-index-index) in
     let settled = subst (λ (v : HeldPool _ _ _). AreSettled v.stock) (sym c.self.view_is) c.requires.settled in
     let d = well g at.After-deliver t got (fires g at.After-write-self-inside t.number) (nodes-before g at.After-keep) (most-there g at.After-index_mut) settled in
     subst AreSettled (sym (stock-then g at.After-write-self-inside c.deliver.new.calendar)) d.settled
 
 -- the event is remembered rightly, where the pool stands for a part
-kept-rightly : (g : Over) (c : After-write-self-inside g) (t : IsTaken c.self.inside.config c.self.inside.worker (stock_of c.self.inside) c.in-Some.letter c.take_first.new.self c.index-place.result)
+kept-rightly : (g : Over) (c : After-write-self-inside g) (t : IsTaken c.self.inside.config c.self.inside.worker (stock_of c.self.inside) c.in-Some.letter c.take_first.new.self c.index-index.result)
     → g.M.Model.IsState c.args.model.now c.index_mut-process.result.now.state
-    → IsRemembered (simulation_of (g.M.Model.handlers c.args.model.now) c.self.inside.config) (number_at c.self.inside.config c.self.inside.worker c.index-place.result) (standing c.index_mut-process.result.now)
-    (remembered (g.M.Model.handlers c.args.model.now) (number_at c.self.inside.config c.self.inside.worker c.index-place.result) (past_of c.self.inside.worker c.in-Ok.entry c.fire.new.out.sends c.fire.new.out.records))
+    → IsRemembered (simulation_of (g.M.Model.handlers c.args.model.now) c.self.inside.config) (number_at c.self.inside.config c.self.inside.worker c.index-index.result) (standing c.index_mut-process.result.now)
+    (remembered (g.M.Model.handlers c.args.model.now) (number_at c.self.inside.config c.self.inside.worker c.index-index.result) (past_of c.self.inside.worker c.in-Ok.entry c.fire.new.out.sends c.fire.new.out.records))
 kept-rightly g c t ok =
     let i = c.self.inside in
     let handlers = g.M.Model.handlers c.args.model.now in
@@ -441,14 +441,14 @@ returns-clause-executed g c some =
     let at = goal.at.returns-clause-executed g c in
     let i = c.self.inside in
     let handlers = g.M.Model.handlers c.args.model.now in
-    let place = c.index-place.result in
+    let index = c.index-index.result in
     let process = c.index_mut-process.result.now in
-    let t = facts g at.After-index-place in
-    let got = there g at.After-index_mut-process (within g at.After-index-place) in
+    let t = facts g at.After-index-index in
+    let got = there g at.After-index_mut-process (within g at.After-index-index) in
     let settled = subst (λ (v : HeldPool _ _ _). AreSettled v.stock) (sym c.self.view_is) c.requires.settled in
     let d = well g at.After-deliver t got (fires g at.After-write-self-inside t.number) (nodes-before g at.After-keep) (most-there g at.After-index_mut) settled in
     let mid : HeldPool _ _ _ = record (view_of i) {
-      stock = executed_in place (past_of i.worker c.in-Ok.entry c.fire.new.out.sends c.fire.new.out.records) c.deliver.new.calendar (standing c.fire.new.process) (stock_of i);
+      stock = executed_in index (past_of i.worker c.in-Ok.entry c.fire.new.out.sends c.fire.new.out.records) c.deliver.new.calendar (standing c.fire.new.process) (stock_of i);
       outbox = c.deliver.new.outbox.letters;
       serial = i.serial + length c.fire.new.out.sends;
       heard = slice_set i.heard.items i.worker c.deliver.new.most;
@@ -456,9 +456,9 @@ returns-clause-executed g c some =
     let stock = stock-then g at.After-write-self-inside c.deliver.new.calendar in
     let serial = serial-then g at.After-write-self-inside in
     let left = coe 0 1 (j. PoolLeadsTo handlers (record mid { stock = stock j; serial = serial j }) c.home_left.new.self) c.home_left.ensures.leads in
-    let home = pool-both handlers (pool_after_execute place c.in-Ok.entry c.fire.new.out.sends c.fire.new.out.records c.take_first.new.self (standing c.fire.new.process) (view_of i)) mid c.home_left.new.self d.leads left in
+    let home = pool-both handlers (pool_after_execute index c.in-Ok.entry c.fire.new.out.sends c.fire.new.out.records c.take_first.new.self (standing c.fire.new.process) (view_of i)) mid c.home_left.new.self d.leads left in
     subst (λ (v : HeldPool _ _ _). HasExecuted handlers v c.home_left.new.self) c.self.view_is
-    (has-executed handlers (view_of i) c.self.invariant.0.known c.self.invariant.0.inside place (standing process) c.in-Some.letter c.take_first.new.self (get-map_of (λ (q : Process _ _ _ _). standing q) i.processes.items place process got)
+    (has-executed handlers (view_of i) c.self.invariant.0.known c.self.invariant.0.inside index (standing process) c.in-Some.letter c.take_first.new.self (get-map_of (λ (q : Process _ _ _ _). standing q) i.processes.items index process got)
     c.in-Some.ensures t.number t.later (standing c.fire.new.process) c.in-Ok.entry c.fire.new.out.sends c.fire.new.out.records (fires g at.After-write-self-inside t.number)
     (λ rest part s. kept-rightly g at.After-write-self-inside t (is-state g at.After-index_mut-process t got rest part s)) c.home_left.new.self home)
 
@@ -467,14 +467,14 @@ returns-clause-leads g c =
     let at = goal.at.returns-clause-leads g c in
     let i = c.self.inside in
     let handlers = g.M.Model.handlers c.args.model.now in
-    let place = c.index-place.result in
+    let index = c.index-index.result in
     let process = c.index_mut-process.result.now in
-    let t = facts g at.After-index-place in
-    let got = there g at.After-index_mut-process (within g at.After-index-place) in
+    let t = facts g at.After-index-index in
+    let got = there g at.After-index_mut-process (within g at.After-index-index) in
     let settled = subst (λ (v : HeldPool _ _ _). AreSettled v.stock) (sym c.self.view_is) c.requires.settled in
     let d = well g at.After-deliver t got (fires g at.After-write-self-inside t.number) (nodes-before g at.After-keep) (most-there g at.After-index_mut) settled in
     let mid : HeldPool _ _ _ = record (view_of i) {
-      stock = executed_in place (past_of i.worker c.in-Ok.entry c.fire.new.out.sends c.fire.new.out.records) c.deliver.new.calendar (standing c.fire.new.process) (stock_of i);
+      stock = executed_in index (past_of i.worker c.in-Ok.entry c.fire.new.out.sends c.fire.new.out.records) c.deliver.new.calendar (standing c.fire.new.process) (stock_of i);
       outbox = c.deliver.new.outbox.letters;
       serial = i.serial + length c.fire.new.out.sends;
       heard = slice_set i.heard.items i.worker c.deliver.new.most;
@@ -482,9 +482,9 @@ returns-clause-leads g c =
     let stock = stock-then g at.After-write-self-inside c.deliver.new.calendar in
     let serial = serial-then g at.After-write-self-inside in
     let left = coe 0 1 (j. PoolLeadsTo handlers (record mid { stock = stock j; serial = serial j }) c.home_left.new.self) c.home_left.ensures.leads in
-    let home = pool-both handlers (pool_after_execute place c.in-Ok.entry c.fire.new.out.sends c.fire.new.out.records c.take_first.new.self (standing c.fire.new.process) (view_of i)) mid c.home_left.new.self d.leads left in
+    let home = pool-both handlers (pool_after_execute index c.in-Ok.entry c.fire.new.out.sends c.fire.new.out.records c.take_first.new.self (standing c.fire.new.process) (view_of i)) mid c.home_left.new.self d.leads left in
     subst (λ (v : HeldPool _ _ _). PoolLeadsTo handlers v c.home_left.new.self) c.self.view_is
-    (executed-leads handlers (view_of i) c.self.invariant.0.known c.self.invariant.0.inside place (standing process) c.in-Some.letter c.take_first.new.self (get-map_of (λ (q : Process _ _ _ _). standing q) i.processes.items place process got)
+    (executed-leads handlers (view_of i) c.self.invariant.0.known c.self.invariant.0.inside index (standing process) c.in-Some.letter c.take_first.new.self (get-map_of (λ (q : Process _ _ _ _). standing q) i.processes.items index process got)
     c.in-Some.ensures t.number t.later (standing c.fire.new.process) c.in-Ok.entry c.fire.new.out.sends c.fire.new.out.records (fires g at.After-write-self-inside t.number)
     (λ rest part s. kept-rightly g at.After-write-self-inside t (is-state g at.After-index_mut-process t got rest part s)) c.home_left.new.self home)
 

@@ -36,7 +36,7 @@ use Rattle.vt_pool.proofs.pool.Pool.undo_last.Goals as goal
 pub last-requires : goal.last-requires
 last-requires g c =
     let i = c.self.inside in
-    let there = subst (λ (v : HeldPool _ _ _). c.args.place < length v.stock.triples) (sym c.self.view_is) c.requires.there in
+    let there = subst (λ (v : HeldPool _ _ _). c.args.index < length v.stock.triples) (sym c.self.view_is) c.requires.there in
     let count = length-map i.processes.items (λ (q : Process _ _ _ _). triple_at q.state q.number q.stream) in
     let long = c.self.invariant.2 in
     omega (arith, there, count, long)
@@ -44,7 +44,7 @@ last-requires g c =
 pub last_sends-sends-requires : goal.last_sends-sends-requires
 last_sends-sends-requires g c =
     let i = c.self.inside in
-    let there = subst (λ (v : HeldPool _ _ _). c.args.place < length v.stock.triples) (sym c.self.view_is) c.requires.there in
+    let there = subst (λ (v : HeldPool _ _ _). c.args.index < length v.stock.triples) (sym c.self.view_is) c.requires.there in
     let count = length-map i.processes.items (λ (q : Process _ _ _ _). triple_at q.state q.number q.stream) in
     let long = c.self.invariant.2 in
     omega (arith, there, count, long)
@@ -52,7 +52,7 @@ last_sends-sends-requires g c =
 pub take_last-requires : goal.take_last-requires
 take_last-requires g c =
     let i = c.self.inside in
-    let there = subst (λ (v : HeldPool _ _ _). c.args.place < length v.stock.triples) (sym c.self.view_is) c.requires.there in
+    let there = subst (λ (v : HeldPool _ _ _). c.args.index < length v.stock.triples) (sym c.self.view_is) c.requires.there in
     let count = length-map i.processes.items (λ (q : Process _ _ _ _). triple_at q.state q.number q.stream) in
     let long = c.self.invariant.2 in
     omega (arith, there, count, long)
@@ -60,8 +60,8 @@ take_last-requires g c =
 pub returns-in_default-clause-undone : goal.returns-in_default-clause-undone
 returns-in_default-clause-undone g c event triple last at =
     let i = c.self.inside in
-    let none = last-none i.worker c.args.place i.log.events c.in_default.ensures in
-    let seen : last_or None (past_at c.args.place (map (placed i.worker) i.log.events)) ≡ Some event = subst (λ (v : HeldPool _ _ _). last_or None (past_at c.args.place v.stock.past) ≡ Some event) (sym c.self.view_is) last in
+    let none = last-none i.worker c.args.index i.log.events c.in_default.ensures in
+    let seen : last_or None (past_at c.args.index (map (placed i.worker) i.log.events)) ≡ Some event = subst (λ (v : HeldPool _ _ _). last_or None (past_at c.args.index v.stock.past) ≡ Some event) (sym c.self.view_is) last in
     absurd (let k : None ≡ Some event = sym none ∙ seen in cc)
 
 pub post-requires-clause-room : goal.post-requires-clause-room
@@ -69,7 +69,7 @@ post-requires-clause-room g c =
     let i = c.self.inside in
     let e = c.in-Some.ensures.0 in
     let at = c.in-Some.ensures.1 in
-    let nodes = nodes-last i.worker c.args.place e i.log.events at in
+    let nodes = nodes-last i.worker c.args.index e i.log.events at in
     let sends = ap length (sends-of_last at c.last_sends-sends.ensures) in
     let enough = c.self.invariant.0.enough in
     omega (arith, nodes, sends, enough)
@@ -81,7 +81,7 @@ post-requires-clause-few g c =
     let at = c.in-Some.ensures.1 in
     let sends = ap length (sends-of_last at c.last_sends-sends.ensures) in
     let serial = ap (λ (x : Entry _ _). x.serial) c.in-Some.ensures.2 in
-    let made = every-last_of i.worker (λ (d : Logged _ _). d.entry.serial + length d.sends ≤ i.serial) c.args.place e i.log.events c.self.invariant.1 at in
+    let made = every-last_of i.worker (λ (d : Logged _ _). d.entry.serial + length d.sends ≤ i.serial) c.args.index e i.log.events c.self.invariant.1 at in
     let few = c.self.invariant.0.few_made in
     omega (arith, sends, serial, made, few)
 
@@ -89,18 +89,18 @@ pub index_mut-requires : goal.index_mut-requires
 index_mut-requires g c =
     let i = c.self.inside in
     let e = c.in-Some.ensures.0 in
-    let within = last-within c.args.place (placed i.worker e).event c.self.invariant.0.known c.self.invariant.0.inside (last-is i.worker c.args.place e i.log.events c.in-Some.ensures.1) in
+    let within = last-within c.args.index (placed i.worker e).event c.self.invariant.0.known c.self.invariant.0.inside (last-is i.worker c.args.index e i.log.events c.in-Some.ensures.1) in
     let count = length-map i.processes.items (λ (q : Process _ _ _ _). triple_at q.state q.number q.stream) in
     search (rules, within, count)
 
 -- it is one of the worker's events, and no pending letter has its stamp
-own : (g : Over) (c : After-index_mut g) → IsOwnEvent c.self.inside.config (number_at c.self.inside.config c.self.inside.worker c.args.place) (placed c.self.inside.worker c.in-Some.ensures.0).event
+own : (g : Over) (c : After-index_mut g) → IsOwnEvent c.self.inside.config (number_at c.self.inside.config c.self.inside.worker c.args.index) (placed c.self.inside.worker c.in-Some.ensures.0).event
 own g c =
     let i = c.self.inside in
     let past = map (placed i.worker) i.log.events in
     let event = (placed i.worker c.in-Some.ensures.0).event in
-    let last = last-is i.worker c.args.place c.in-Some.ensures.0 i.log.events c.in-Some.ensures.1 in
-    (every-last_there c.args.place event past (last-there c.args.place event past last) (IsWorkersEvent i.config i.worker) c.self.invariant.0.inside.own_past).own
+    let last = last-is i.worker c.args.index c.in-Some.ensures.0 i.log.events c.in-Some.ensures.1 in
+    (every-last_there c.args.index event past (last-there c.args.index event past last) (IsWorkersEvent i.config i.worker) c.self.invariant.0.inside.own_past).own
 
 pub undo_entry-requires-clause-few : goal.undo_entry-requires-clause-few
 undo_entry-requires-clause-few g c κs within =
@@ -112,7 +112,7 @@ put-node-requires g c =
     let i = c.self.inside in
     let e = c.in-Some.ensures.0 in
     let at = c.in-Some.ensures.1 in
-    let nodes = nodes-last i.worker c.args.place e i.log.events at in
+    let nodes = nodes-last i.worker c.args.index e i.log.events at in
     let sends = ap length (sends-of_last at c.last_sends-sends.ensures) in
     let enough = c.self.invariant.0.enough in
     let left = c.post.ensures.taken in
@@ -124,9 +124,9 @@ put-requires g c =
     let past = map (placed i.worker) i.log.events in
     let e = c.in-Some.ensures.0 in
     let event = (placed i.worker e).event in
-    let last = last-is i.worker c.args.place e i.log.events c.in-Some.ensures.1 in
-    let apart : IsStampedApart i.calendar (record { place = c.args.place; event = event }) =
-    every-last_there c.args.place event past (last-there c.args.place event past last) (IsStampedApart i.calendar) c.self.invariant.0.inside.apart in
+    let last = last-is i.worker c.args.index e i.log.events c.in-Some.ensures.1 in
+    let apart : IsStampedApart i.calendar (record { index = c.args.index; event = event }) =
+    every-last_there c.args.index event past (last-there c.args.index event past last) (IsStampedApart i.calendar) c.self.invariant.0.inside.apart in
     let node : c.put-node.result ≡ event.letter = c.put-node.ensures.letter ∙ ap (λ (x : Entry _ _). signed Plus x.event) (entry-of_last c.in-Some.ensures.1 c.in-Some-take_last.ensures.taken) in
     ap (λ (l : Letter _). holds_rank (letter_rank l) i.calendar) node
     ∙ stamped-apart event.letter i.calendar (every-weaker _ _ i.calendar (λ l differs same. differs (sym same)) apart)
@@ -137,16 +137,16 @@ standing q = triple_at q.state q.number q.stream
 
 -- what is kept of the processes after it
 kept-after : (g : Over) (c : After-put g)
-    → undone_in c.args.place (placed c.self.inside.worker c.in-Some.ensures.0).event (standing c.undo_entry.new.process)
+    → undone_in c.args.index (placed c.self.inside.worker c.in-Some.ensures.0).event (standing c.undo_entry.new.process)
     (record { triples = map standing c.self.inside.processes.items; past = map (placed c.self.inside.worker) c.self.inside.log.events; pending = c.self.inside.calendar; waiting = c.self.inside.waiting })
-    ≡ record { triples = map standing (slice_set c.self.inside.processes.items c.args.place c.undo_entry.new.process); past = map (placed c.self.inside.worker) c.take_last.new.self.events; pending = c.put.new.self; waiting = c.self.inside.waiting }
+    ≡ record { triples = map standing (slice_set c.self.inside.processes.items c.args.index c.undo_entry.new.process); past = map (placed c.self.inside.worker) c.take_last.new.self.events; pending = c.put.new.self; waiting = c.self.inside.waiting }
 kept-after g c =
     let i = c.self.inside in
     let event = (placed i.worker c.in-Some.ensures.0).event in
     let node : c.put-node.result ≡ event.letter = c.put-node.ensures.letter ∙ ap (λ (x : Entry _ _). signed Plus x.event) (entry-of_last c.in-Some.ensures.1 c.in-Some-take_last.ensures.taken) in
-    let events = ap (map (placed i.worker)) c.take_last.ensures.left ∙ without-placed i.worker c.args.place i.log.events in
+    let events = ap (map (placed i.worker)) c.take_last.ensures.left ∙ without-placed i.worker c.args.index i.log.events in
     let pending = c.put.ensures ∙ ap (λ (l : Letter _). insert_letter l i.calendar) node in
-    λ j. record { triples = sym (map-put standing i.processes.items c.args.place c.undo_entry.new.process) j; past = sym events j; pending = sym pending j; waiting = i.waiting }
+    λ j. record { triples = sym (map-put standing i.processes.items c.args.index c.undo_entry.new.process) j; past = sym events j; pending = sym pending j; waiting = i.waiting }
 
 -- the outbox after it
 sent-after : (g : Over) (c : After-put g) → c.post.new.outbox ≡ record c.self.inside.outbox { letters = c.self.inside.outbox.letters ++ (placed c.self.inside.worker c.in-Some.ensures.0).event.anti_messages }
@@ -159,13 +159,13 @@ sent-after g c =
     c.post.ensures.posted ∙ (λ j. record i.outbox { letters = i.outbox.letters ++ map (signed Minus) (stamped i.worker (serial j) (sends j)) })
 
 -- the process was there
-there : (g : Over) (c : After-put g) → slice_get c.self.inside.processes.items c.args.place ≡ Some c.index_mut.result.now
+there : (g : Over) (c : After-put g) → slice_get c.self.inside.processes.items c.args.index ≡ Some c.index_mut.result.now
 there g c =
     let i = c.self.inside in
     let e = c.in-Some.ensures.0 in
-    let within = last-within c.args.place (placed i.worker e).event c.self.invariant.0.known c.self.invariant.0.inside (last-is i.worker c.args.place e i.log.events c.in-Some.ensures.1) in
+    let within = last-within c.args.index (placed i.worker e).event c.self.invariant.0.known c.self.invariant.0.inside (last-is i.worker c.args.index e i.log.events c.in-Some.ensures.1) in
     let count = length-map i.processes.items (λ (q : Process _ _ _ _). standing q) in
-    index-get i.processes.items c.args.place c.index_mut.result.now (omega (arith, within, count)) (sym c.index_mut.ensures.value)
+    index-get i.processes.items c.args.index c.index_mut.result.now (omega (arith, within, count)) (sym c.index_mut.ensures.value)
 
 pub invariant_of-self : goal.invariant_of-self
 invariant_of-self g c =
@@ -182,20 +182,20 @@ invariant_of-self g c =
     let anti = length-letters Minus i.worker e.entry.serial e.sends in
     let posted = c.post.ensures.taken in
     let put = c.put-node.ensures.taken in
-    let pool = pool-undone c.self.invariant.0 c.args.place (standing after) event c.index_mut.result.now.stream after.stream c.put-node.new.self c.post.new.outbox
-    (last-is i.worker c.args.place e i.log.events at) (subst (λ n. n ≤ MAX_COUNT) (sym number) mine.numbered)
-    (get-map_of stream i.processes.items c.args.place c.index_mut.result.now (there g c)) (ap (λ (s : Stream). s.key) moved) (ap (λ (s : Stream). s.process) moved) (sent-after g c)
+    let pool = pool-undone c.self.invariant.0 c.args.index (standing after) event c.index_mut.result.now.stream after.stream c.put-node.new.self c.post.new.outbox
+    (last-is i.worker c.args.index e i.log.events at) (subst (λ n. n ≤ MAX_COUNT) (sym number) mine.numbered)
+    (get-map_of stream i.processes.items c.args.index c.index_mut.result.now (there g c)) (ap (λ (s : Stream). s.key) moved) (ap (λ (s : Stream). s.process) moved) (sent-after g c)
     (omega (arith, sends, anti, posted, put)) in
-    let streams = sym (map-put stream i.processes.items c.args.place after) in (
+    let streams = sym (map-put stream i.processes.items c.args.index after) in (
       coe 0 1 (j. IsPoolInside i.config i.worker (kept-after g c j) (streams j) c.post.new.outbox i.serial i.reached i.heard.items c.put-node.new.self) pool,
       subst (AreMade i.serial) (sym c.take_last.ensures.left)
-          (every-without_last i.worker (λ (d : Logged _ _). d.entry.serial + length d.sends ≤ i.serial) c.args.place i.log.events c.self.invariant.1),
-      c.take_last.ensures.processes ∙ c.self.invariant.2 ∙ sym (length-set i.processes.items c.args.place after),
+          (every-without_last i.worker (λ (d : Logged _ _). d.entry.serial + length d.sends ≤ i.serial) c.args.index i.log.events c.self.invariant.1),
+      c.take_last.ensures.processes ∙ c.self.invariant.2 ∙ sym (length-set i.processes.items c.args.index after),
     )
 
 -- where the process stands after it
 back : (g : Over) (c : After-put g) → let i = c.self.inside in
-    standing c.undo_entry.new.process ≡ way_back (g.M.Model.handlers c.args.model.now) (number_at i.config i.worker c.args.place) (placed i.worker c.in-Some.ensures.0).event (standing c.index_mut.result.now)
+    standing c.undo_entry.new.process ≡ way_back (g.M.Model.handlers c.args.model.now) (number_at i.config i.worker c.args.index) (placed i.worker c.in-Some.ensures.0).event (standing c.index_mut.result.now)
 back g c =
     let i = c.self.inside in
     let handlers = g.M.Model.handlers c.args.model.now in
@@ -204,8 +204,8 @@ back g c =
     let e = c.in-Some.ensures.0 in
     let event = (placed i.worker e).event in
     let past = map (placed i.worker) i.log.events in
-    let last = last-is i.worker c.args.place e i.log.events c.in-Some.ensures.1 in
-    let mine = every-last_there c.args.place event past (last-there c.args.place event past last) (IsWorkersEvent i.config i.worker) c.self.invariant.0.inside.own_past in
+    let last = last-is i.worker c.args.index e i.log.events c.in-Some.ensures.1 in
+    let mine = every-last_there c.args.index event past (last-there c.args.index event past last) (IsWorkersEvent i.config i.worker) c.self.invariant.0.inside.own_past in
     let state = c.undo_entry.ensures.state
     ∙ (λ j. handlers.reverse (is j).event.dest (is j).event.rank.key.time (is j).event.payload before.state (is j).bits (is j).kept)
     ∙ ap (λ p. handlers.reverse p e.entry.event.rank.key.time e.entry.event.payload before.state e.entry.bits e.entry.kept) mine.own.own.dest in
@@ -228,20 +228,20 @@ returns-clause-undone g c event triple last at =
       serial = i.serial;
       heard = i.heard.items;
     } in
-    let last0 : last_or None (past_at c.args.place old.stock.past) ≡ Some event = subst (λ (v : HeldPool _ _ _). last_or None (past_at c.args.place v.stock.past) ≡ Some event) (sym c.self.view_is) last in
-    let at0 : slice_get old.stock.triples c.args.place ≡ Some triple = subst (λ (v : HeldPool _ _ _). slice_get v.stock.triples c.args.place ≡ Some triple) (sym c.self.view_is) at in
-    let k : Some event0 ≡ Some event = sym (last-is i.worker c.args.place e i.log.events c.in-Some.ensures.1) ∙ last0 in
+    let last0 : last_or None (past_at c.args.index old.stock.past) ≡ Some event = subst (λ (v : HeldPool _ _ _). last_or None (past_at c.args.index v.stock.past) ≡ Some event) (sym c.self.view_is) last in
+    let at0 : slice_get old.stock.triples c.args.index ≡ Some triple = subst (λ (v : HeldPool _ _ _). slice_get v.stock.triples c.args.index ≡ Some triple) (sym c.self.view_is) at in
+    let k : Some event0 ≡ Some event = sym (last-is i.worker c.args.index e i.log.events c.in-Some.ensures.1) ∙ last0 in
     let event_is : event0 ≡ event = cc in
-    let l : Some (standing before) ≡ Some triple = sym (get-map_of (λ (q : Process _ _ _ _). standing q) i.processes.items c.args.place before (there g c)) ∙ at0 in
+    let l : Some (standing before) ≡ Some triple = sym (get-map_of (λ (q : Process _ _ _ _). standing q) i.processes.items c.args.index before (there g c)) ∙ at0 in
     let triple_is : standing before ≡ triple = cc in
     (λ j. record old { stock = sym (kept-after g c) j; outbox = (sent-after g c j).letters })
-    ∙ (λ j. record old { stock = undone_in c.args.place event0 (back g c j) old.stock; outbox = old.outbox ++ event0.anti_messages })
-    ∙ (λ j. pool_after_undo handlers c.args.place (event_is j) (triple_is j) old)
-    ∙ ap (λ (v : HeldPool _ _ _). pool_after_undo handlers c.args.place event triple v) c.self.view_is
+    ∙ (λ j. record old { stock = undone_in c.args.index event0 (back g c j) old.stock; outbox = old.outbox ++ event0.anti_messages })
+    ∙ (λ j. pool_after_undo handlers c.args.index (event_is j) (triple_is j) old)
+    ∙ ap (λ (v : HeldPool _ _ _). pool_after_undo handlers c.args.index event triple v) c.self.view_is
 
 pub returns-clause-nothing : goal.returns-clause-nothing
 returns-clause-nothing g c none =
     let i = c.self.inside in
     let e = c.in-Some.ensures.0 in
-    let none0 : last_or None (past_at c.args.place (map (placed i.worker) i.log.events)) ≡ None = subst (λ (v : HeldPool _ _ _). last_or None (past_at c.args.place v.stock.past) ≡ None) (sym c.self.view_is) none in
-    absurd (let k : Some (placed i.worker e).event ≡ None = sym (last-is i.worker c.args.place e i.log.events c.in-Some.ensures.1) ∙ none0 in cc)
+    let none0 : last_or None (past_at c.args.index (map (placed i.worker) i.log.events)) ≡ None = subst (λ (v : HeldPool _ _ _). last_or None (past_at c.args.index v.stock.past) ≡ None) (sym c.self.view_is) none in
+    absurd (let k : Some (placed i.worker e).event ≡ None = sym (last-is i.worker c.args.index e i.log.events c.in-Some.ensures.1) ∙ none0 in cc)

@@ -6,7 +6,7 @@ use Rattle.vt_model.specs.promise.Settings.{end_of}
 use Rattle.vt_model.proofs.LawLemmas.{lawful_of}
 use Rattle.vt_steps.specs.declared.step.Step.TheVariants.{Commit}
 use Rattle.vt_world.proofs.StepLemmas.{step-left}
-use Rattle.vt_world.proofs.Places.{worker-there}
+use Rattle.vt_world.proofs.Indices.{worker-there}
 use Rattle.vt_world.proofs.CellLemmas.{book-put, cell-step, cell-inside, one-world}
 use Rattle.vt_world.proofs.WorldSteps.{who, of-nobody, commit-closed}
 use Rattle.vt_world.proofs.in_memory.InMemory.commit.Goals as goal

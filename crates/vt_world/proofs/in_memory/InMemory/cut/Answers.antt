@@ -4,7 +4,7 @@ use Rattle.vt_steps.specs.declared.step.Step.TheVariants.{Cut}
 use Rattle.vt_model.specs.declared.settings.Config.{Config}
 use Rattle.vt_model.specs.promise.Settings.{end_of}
 use Rattle.vt_world.proofs.StepLemmas.{step-left}
-use Rattle.vt_world.proofs.Places.{worker-there}
+use Rattle.vt_world.proofs.Indices.{worker-there}
 use Rattle.vt_world.proofs.CellLemmas.{board-put, cell-step, cell-inside}
 use Rattle.vt_world.proofs.WorldSteps.{who, of-nobody}
 use Rattle.vt_world.proofs.in_memory.InMemory.cut.Goals as goal

@@ -4,7 +4,7 @@ use Rattle.std.proofs.Props.{props}
 use base.Stored.{Coded-set}
 use Rattle.vt_steps.specs.declared.step.Step.TheVariants.{Execute}
 use Rattle.vt_world.proofs.StepLemmas.{step-refused}
-use Rattle.vt_world.proofs.Places.{worker-there, put-back}
+use Rattle.vt_world.proofs.Indices.{worker-there, put-back}
 use Rattle.vt_world.proofs.LocalLemmas.{execute-why, does-locally, inside-local, inside-kept, some-part}
 use Rattle.vt_world.proofs.LimitLemmas.{execute-within}
 use Rattle.vt_world.proofs.in_memory.InMemory.execute.Goals as goal

@@ -4,7 +4,7 @@ use Rattle.vt_model.specs.declared.settings.Config.{Config}
 use Rattle.vt_steps.specs.declared.step.Step.TheVariants.{Fetch}
 use Rattle.vt_kernel.specs.inside.Held.{AllOwnMail}
 use Rattle.vt_world.proofs.StepLemmas.{step-left}
-use Rattle.vt_world.proofs.Places.{own-mail, worker-there, inbox-there}
+use Rattle.vt_world.proofs.Indices.{own-mail, worker-there, inbox-there}
 use Rattle.vt_world.proofs.CellLemmas.{inbox-put, cell-step, cell-inside}
 use Rattle.vt_world.proofs.WorldSteps.{who, of-nobody}
 use Rattle.vt_world.proofs.in_memory.InMemory.fetch.Goals as goal

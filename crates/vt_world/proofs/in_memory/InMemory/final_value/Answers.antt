@@ -7,7 +7,7 @@ use Rattle.vt_model.proofs.LawLemmas.{lawful_of}
 use Rattle.vt_lp.specs.inside.Held.{HeldProcess}
 use Rattle.vt_kernel.specs.inside.Held.{HeldWorker, process_of, IsProcessOf}
 use Rattle.vt_world.specs.inside.Held.{HeldWorld}
-use Rattle.vt_world.proofs.Places.{owner-there, is-own}
+use Rattle.vt_world.proofs.Indices.{owner-there, is-own}
 use Rattle.vt_world.proofs.FinalLemmas.{of-some, final-value}
 use Rattle.vt_world.proofs.in_memory.InMemory.final_value.Goals as goal
 

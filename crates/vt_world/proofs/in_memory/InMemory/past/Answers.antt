@@ -6,7 +6,7 @@ use Rattle.vt_steps.specs.promise.World.{World}
 use Rattle.vt_kernel.specs.inside.Held.{HeldWorker}
 use Rattle.vt_world.specs.inside.Held.{HeldWorld, StandsForWorld}
 use Rattle.vt_world.specs.promise.Answers.{IsPastIn}
-use Rattle.vt_world.proofs.Places.{owner-there}
+use Rattle.vt_world.proofs.Indices.{owner-there}
 use Rattle.vt_world.proofs.PastLemmas.{own-process, no-process, past-in}
 use Rattle.vt_world.proofs.in_memory.InMemory.past.Goals as goal
 

@@ -6,7 +6,7 @@ use Rattle.vt_model.specs.promise.Settings.{end_of}
 use Rattle.vt_kernel.specs.inside.Held.{HeldWorker}
 use Rattle.vt_cells.specs.inside.Calls.{answer_of}
 use Rattle.vt_world.proofs.StepLemmas.{step-left}
-use Rattle.vt_world.proofs.Places.{worker-there}
+use Rattle.vt_world.proofs.Indices.{worker-there}
 use Rattle.vt_world.proofs.CellLemmas.{board-put, cell-answers, cell-inside}
 use Rattle.vt_world.proofs.WorldSteps.{who, of-nobody}
 use Rattle.vt_world.proofs.in_memory.InMemory.report.Goals.{in-Ok, in-Err}

@@ -1,6 +1,6 @@
 use Rattle.std.proofs.Common.{rules, sym}
 use Rattle.vt_steps.specs.declared.step.Step.TheVariants.{Undo}
-use Rattle.vt_world.proofs.Places.{worker-there}
+use Rattle.vt_world.proofs.Indices.{worker-there}
 use Rattle.vt_world.proofs.LocalLemmas.{does-quietly, refuses-locally, inside-local, inside-kept}
 use Rattle.vt_world.proofs.in_memory.InMemory.undo.Goals as goal
 

@@ -19,7 +19,7 @@ use Rattle.vt_world.proofs.WorldSteps.{who}
 use Rattle.vt_world.proofs.StepLemmas.{inside-stepped}
 
 module _ {P : Type 0} (config : Config) where
-  -- the inbox at a place holds mail for its worker
+  -- the inbox at an index holds mail for its worker
   pub inbox-at : (base w : ℕ) (inboxes : List (List (Mail P))) (inbox : List (Mail P)) → AreInboxes config base inboxes → slice_get inboxes w ≡ Some inbox → AllOwnMail config (base + w) inbox
   inbox-at base w [] inbox h at = absurd (let k : None ≡ Some inbox = at in cc)
   inbox-at base zero (x ∷ xs) inbox h at =
