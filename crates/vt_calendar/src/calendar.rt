@@ -79,7 +79,7 @@ impl<P: Copy> Calendar<P> {
         })
     }
 
-    /// Puts a letter in its place. No letter of its rank may be there.
+    /// Puts a letter where it belongs. No letter of its rank may be there.
     // It is done once for each event.
     #[inline(always)]
     pub fn put(&mut self, letter: Parcel<Letter<P>>)

@@ -6,7 +6,7 @@ ghost use Rattle.std.specs.Option.{option_copied};
 ghost use Rattle.std_collections.specs.Map.Iter.{TakesFirst, deref};
 
 use std::marker::Model;
-use vt_nodes::{Blocks, Chain, Link, Node, Predicate, Row, Trail};
+use vt_nodes::{Blocks, Chain, Link, Node, Predicate, Trail, Trails};
 
 /// An iterator over the items of a list from the front. Contracts see the items that are left.
 #[derive(Drop)]
@@ -49,7 +49,7 @@ impl<'a, T> Iter<'a, T> {
     pub fn peek(&self) -> Option<&'a T>
         ensures { option_copied result ≡ slice_get self.now 0 }
     {
-        let Some(at) = self.next.place() else {
+        let Some(at) = self.next.address() else {
             return None;
         };
         Some(&self.left.get(at).item)
@@ -76,7 +76,7 @@ impl<'a, T> Iterator for Iter<'a, T> {
     ghost remaining = { λ s. at_most (length s) };
 
     fn next(&mut self) -> Option<&'a T> {
-        let at = self.next.place()?;
+        let at = self.next.address()?;
         let node = self.left.get(at);
         self.next = node.next;
         self.left = self.left.rest();
@@ -121,7 +121,7 @@ impl<'a, T> Iterator for IterBack<'a, T> {
     ghost remaining = { λ s. at_most (length s) };
 
     fn next(&mut self) -> Option<&'a T> {
-        let at = self.next.place()?;
+        let at = self.next.address()?;
         let node = self.left.get(at);
         self.next = node.prev;
         self.left = self.left.front();
@@ -129,8 +129,8 @@ impl<'a, T> Iterator for IterBack<'a, T> {
     }
 }
 
-/// An iterator over the lines of a row, which gives each as an iterator over its items. Contracts see the lines that
-/// are left.
+/// An iterator over lines, which gives each as an iterator over its items. Contracts see the lines that are
+/// left.
 #[derive(Drop)]
 pub struct IterLines<'a, T> {
     next: Link,
@@ -140,22 +140,22 @@ pub struct IterLines<'a, T> {
 impl<'a, T> Model for IterLines<'a, T> {
     ghost use Rattle.std.specs.Prelude.{◌≡◌, List, None, map};
     ghost use Rattle.vt_nodes.specs.inside.Linked.{first_or, items};
-    ghost use Rattle.vt_nodes.specs.inside.Lines.{lines_of, StandInRow};
+    ghost use Rattle.vt_nodes.specs.inside.Lines.{lines_of, AreTrails};
 
     ghost Value = { List (List T) };
 
     ghost view = { λ i. map items (lines_of i.left.now.owned) };
 
-    ghost invariant = { λ i. (i.next ≡ first_or None i.left.now.owned) × StandInRow None (lines_of i.left.now.owned) };
+    ghost invariant = { λ i. (i.next ≡ first_or None i.left.now.owned) × AreTrails None (lines_of i.left.now.owned) };
 }
 
 impl<'a, T> IterLines<'a, T> {
-    pub(crate) fn over(row: &'a Row<T>) -> IterLines<'a, T>
-        ensures { result ≡ row.now }
+    pub(crate) fn over(trails: &'a Trails<T>) -> IterLines<'a, T>
+        ensures { result ≡ trails.now }
     {
         IterLines {
-            next: row.head,
-            left: &row.nodes,
+            next: trails.head,
+            left: &trails.nodes,
         }
     }
 }
@@ -168,7 +168,7 @@ impl<'a, T> Iterator for IterLines<'a, T> {
     ghost remaining = { λ s. at_most (length s) };
 
     fn next(&mut self) -> Option<Iter<'a, T>> {
-        let at = self.next.place()?;
+        let at = self.next.address()?;
         let line = Iter {
             next: self.next,
             left: self.left.front(),

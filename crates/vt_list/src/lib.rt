@@ -8,9 +8,9 @@
 //! A [`Stack`] holds parcels last in, first out. Its nodes are linked one way, so a call reads and writes only the
 //! node that it puts in or takes out. The nodes below it may long have left the processor's cache.
 //!
-//! A [`Line`] is a list that is linked one way and takes one word. [`Lines`] are several lines in a row, none of them
-//! empty, in one word too: the first node of each line knows where the next line begins. So many lists cost next to
-//! nothing if most of them are empty.
+//! A [`Line`] is a list that is linked one way and takes one word. [`Lines`] are several lines one after the
+//! other, none of them empty, in one word too: the first node of each line knows where the next line begins. So many
+//! lists cost next to nothing if most of them are empty.
 //!
 //! Contracts see a parcel as its item, a list, a line or a stack as the list of its items, and [`Lines`] as the list
 //! of its lines. No clause speaks of a node or a pointer.

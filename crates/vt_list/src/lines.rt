@@ -1,4 +1,4 @@
-//! Lines in a row.
+//! Lines one after the other.
 
 ghost use Rattle.std.specs.Prelude.{◌≡◌, ◌≢◌, ◌↔◌, [], ◌∷◌, ◌++◌, MatchOption, IfNone, IfSome, IsTrue};
 ghost use Rattle.std.specs.Option.{option_copied};
@@ -9,18 +9,18 @@ use crate::iter::IterLines;
 use crate::line::Line;
 use std::alloc::Global;
 use std::marker::Model;
-use vt_nodes::{Passed, Predicate, Row, pass_row};
+use vt_nodes::{Passed, Predicate, Trails, pass_trails};
 
-/// Lines in a row, none of them empty, in one word. Contracts see the list of the lines.
+/// Lines one after the other, none of them empty, in one word. Contracts see the list of the lines.
 ///
-/// Neither the row nor its lines have memory of their own: the first node of each line knows where the next line
-/// begins. So many lines, of which most are empty at most times, cost one word in all.
+/// They have no memory of their own: the first node of each line knows where the next line begins. So
+/// many lines, of which most are empty at most times, cost one word in all.
 ///
-/// No call takes memory. A row that is dropped drops each item once and frees each node, in a loop and not by
+/// No call takes memory. Lines that are dropped drop each item once and free each node, in a loop and not by
 /// recursion.
 pub struct Lines<T> {
     alloc: Global,
-    row: Row<T>,
+    trails: Trails<T>,
 }
 
 impl<T> Model for Lines<T> {
@@ -28,7 +28,7 @@ impl<T> Model for Lines<T> {
 
     ghost Value = { List (List T) };
 
-    ghost view = { λ l. l.row };
+    ghost view = { λ l. l.trails };
 }
 
 impl<T: Drop> Drop for Lines<T> {
@@ -36,19 +36,19 @@ impl<T: Drop> Drop for Lines<T> {
         while let Some(line) = self.pop_line() {
             drop(line);
         }
-        let Lines { alloc: _, row } = self;
-        row.end();
+        let Lines { alloc: _, trails } = self;
+        trails.end();
     }
 }
 
 impl<T: Drop> Lines<T> {
-    /// A row without lines.
+    /// No line.
     pub fn new(alloc: Global) -> Lines<T>
         ensures { result ≡ [] }
     {
         Lines {
             alloc,
-            row: Row::new(),
+            trails: Trails::new(),
         }
     }
 
@@ -57,8 +57,8 @@ impl<T: Drop> Lines<T> {
         requires { line ≢ [] }
         ensures { self.new ≡ line ∷ self.old }
     {
-        let row = self.row.take();
-        self.row.put(row.with_first(line.into_trail()));
+        let trails = self.trails.take();
+        self.trails.put(trails.with_first(line.into_trail()));
     }
 
     /// Takes out the first line, which isn't empty; None if there is no line. It touches only the line's first node.
@@ -66,8 +66,8 @@ impl<T: Drop> Lines<T> {
         ensures lines { MatchOption result ((self.old ≡ []) × (self.new ≡ [])) (λ line. self.old ≡ line ∷ self.new) }
         ensures filled { IfSome result (λ line. line ≢ []) }
     {
-        let (first, others) = self.row.take().split_first();
-        self.row.put(others);
+        let (first, others) = self.trails.take().split_first();
+        self.trails.put(others);
         let trail = first?;
         Some(Line {
             alloc: self.alloc,
@@ -84,8 +84,8 @@ impl<T> Lines<T> {
         ensures others { self.new ≡ from_first (begins_with (P.passes test.now)) self.old }
         ensures whole { self.old ≡ result ++ self.new }
     {
-        let (passed, ahead) = pass_row(self.row.take(), test);
-        self.row.put(ahead);
+        let (passed, ahead) = pass_trails(self.trails.take(), test);
+        self.trails.put(ahead);
         passed
     }
 
@@ -93,15 +93,15 @@ impl<T> Lines<T> {
     pub fn join(&mut self, passed: Passed<T>)
         ensures { self.new ≡ passed ++ self.old }
     {
-        let row = self.row.take();
-        self.row.put(passed.join(row));
+        let trails = self.trails.take();
+        self.trails.put(passed.join(trails));
     }
 
     /// Whether there is no line.
     pub fn is_empty(&self) -> bool
         ensures { IsTrue result ↔ (self.now ≡ []) }
     {
-        self.row.is_empty()
+        self.trails.is_empty()
     }
 
     /// The first item of the first line; None only if there is no line.
@@ -109,13 +109,13 @@ impl<T> Lines<T> {
         ensures item { option_copied result ≡ first_item self.now }
         ensures none { IfNone result (self.now ≡ []) }
     {
-        self.row.first()
+        self.trails.first()
     }
 
     /// An iterator over the lines, which gives each as an iterator over its items.
     pub fn iter(&self) -> IterLines<'_, T>
         ensures { result ≡ self.now }
     {
-        IterLines::over(&self.row)
+        IterLines::over(&self.trails)
     }
 }

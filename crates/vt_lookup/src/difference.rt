@@ -16,7 +16,7 @@ pub struct Moment {
 }
 
 impl Moment {
-    /// Process `lp` at a time.
+    /// The moment of a process at a time.
     pub(crate) fn new(lp: u32, now: When) -> Moment {
         Moment {
             lp,

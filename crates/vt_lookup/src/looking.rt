@@ -9,7 +9,8 @@ use std::alloc::Global;
 use vt_key::{Fault, When};
 use vt_model::{Config, Model as EventModel, Out, Process, Sent};
 
-/// Adds what is sent at a moment to the pending events. A send that isn't later, or that goes to no process, is answered.
+/// Adds what is sent at a moment to the pending events. A send that isn't later, or that goes to no process, is
+/// answered.
 fn add_sends<P: Copy>(
     config: Config,
     moment: Moment,

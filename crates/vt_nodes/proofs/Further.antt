@@ -5,14 +5,14 @@ use Rattle.std.proofs.lemmas.List.{append-nil, append_assoc}
 use Rattle.vt_nodes.specs.inside.First.{before_first, from_first, first_fails}
 use Rattle.vt_nodes.specs.inside.Linked.{advanced}
 
--- where one is ahead that fails, the place behind it parts the same items
+-- where one is ahead that fails, the position behind it parts the same items
 pub record IsFurther {X : Type 0} (test : X → Bool) (old new : List X × List X) : Type 0 where
   pub before : old.0 ++ before_first test old.1 ≡ new.0 ++ before_first test new.1
   pub from : from_first test old.1 ≡ from_first test new.1
   pub whole : old.0 ++ old.1 ≡ new.0 ++ new.1
   pub ahead : length new.1 < length old.1
 
-pub further : {X : Type 0} (test : X → Bool) (place : List X × List X) → first_fails test place.1 ≡ true → IsFurther test place (advanced place)
+pub further : {X : Type 0} (test : X → Bool) (position : List X × List X) → first_fails test position.1 ≡ true → IsFurther test position (advanced position)
 further test (passed, []) fails = absurd (let h : false ≡ true = fails in cc)
 further test (passed, x ∷ ahead) fails = elim (test x) as (λ b. not b ≡ true → test x ≡ b → IsFurther test (passed, x ∷ ahead) (passed ++ x ∷ [], ahead)) [
   | true ↦ λ h is. absurd (let k : false ≡ true = h in cc)

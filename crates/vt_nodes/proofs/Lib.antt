@@ -5,7 +5,7 @@ mod Lending
 pub mod Links
 mod Owning
 mod Paths
-mod RowPaths
-pub mod Rows
 mod Splits
+pub mod TrailLemmas
+mod TrailsPaths
 mod Walk

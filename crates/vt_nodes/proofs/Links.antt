@@ -5,9 +5,9 @@ use Rattle.std.proofs.lemmas.List.{take_at, drop_at, length-append, append_assoc
 use Rattle.std.proofs.lemmas.Option.{none-some}
 use Rattle.std.specs.Option.{unwrap_or}
 use denote.RawPtr.{Ptr, null_ptr}
-use Rattle.vt_nodes.specs.inside.Blocks.{places, place_at}
+use Rattle.vt_nodes.specs.inside.Blocks.{addresses, address_at}
 use Rattle.vt_nodes.specs.declared.node.Node.{Node}
-use Rattle.vt_nodes.specs.inside.Linked.{NodeAt, first_or, last_or, with_next, with_prev, items, LeadOn, LeadBack, IsChain, IsPlace}
+use Rattle.vt_nodes.specs.inside.Linked.{NodeAt, first_or, last_or, with_next, with_prev, items, LeadOn, LeadBack, IsChain, IsAddress}
 
 -- ---- ends
 
@@ -30,7 +30,7 @@ pub last-append : {Y : Type 0} (a : Option Ptr) (bs cs : List (Ptr × Y)) → la
 last-append a [] cs = refl
 last-append a (b ∷ bs) cs = last-append (Some b.0) bs cs
 
--- nodes with a known last place are some nodes and one more
+-- nodes with a known last address are some nodes and one more
 pub record Last {Y : Type 0} (p : Ptr) (bs : List (Ptr × Y)) : Type 0 where
   pub front : List (Ptr × Y)
   pub content : Y
@@ -59,32 +59,32 @@ module _ {Y : Type 0} (p : Ptr) (bs : List (Ptr × Y)) (l : Last p bs) where
   some-last = omega (arith, ap length l.is, length-append l.front ((p, l.content) ∷ []))
 
 -- where the last one lies
-place-snoc : {Y : Type 0} (p : Ptr) (y : Y) (bs : List (Ptr × Y)) → place_at (bs ++ (p, y) ∷ []) (length bs) ≡ p
-place-snoc p y [] = refl
-place-snoc p y (b ∷ bs) = place-snoc p y bs
+address-snoc : {Y : Type 0} (p : Ptr) (y : Y) (bs : List (Ptr × Y)) → address_at (bs ++ (p, y) ∷ []) (length bs) ≡ p
+address-snoc p y [] = refl
+address-snoc p y (b ∷ bs) = address-snoc p y bs
 
-pub place-last : {Y : Type 0} (p : Ptr) (bs : List (Ptr × Y)) → last_or None bs ≡ Some p → (length bs - 1 < length bs) × (place_at bs (length bs - 1) ≡ p)
-place-last p bs e =
+pub address-last : {Y : Type 0} (p : Ptr) (bs : List (Ptr × Y)) → last_or None bs ≡ Some p → (length bs - 1 < length bs) × (address_at bs (length bs - 1) ≡ p)
+address-last p bs e =
     let l = last-of p bs e in
     let some : 0 < length bs = some-last p bs l in
-    (omega arith, ap (place_at bs) (sym (one-less p bs l)) ∙ ap (λ cs. place_at cs (length l.front)) l.is ∙ place-snoc p l.content l.front)
+    (omega arith, ap (address_at bs) (sym (one-less p bs l)) ∙ ap (λ cs. address_at cs (length l.front)) l.is ∙ address-snoc p l.content l.front)
 
--- one node is where its place says
-pub only-place : {Y : Type 0} (p : Ptr) (bs : List (Ptr × Y)) → places bs ≡ p ∷ [] → (0 < length bs) × (place_at bs 0 ≡ p)
-only-place p [] is = absurd (omega (arith, ap length is))
-only-place p (b ∷ bs) is = (omega arith, ap (λ ps. slice_index_or ps 0 null_ptr) is)
+-- one node is where its address says
+pub only-address : {Y : Type 0} (p : Ptr) (bs : List (Ptr × Y)) → addresses bs ≡ p ∷ [] → (0 < length bs) × (address_at bs 0 ≡ p)
+only-address p [] is = absurd (omega (arith, ap length is))
+only-address p (b ∷ bs) is = (omega arith, ap (λ ps. slice_index_or ps 0 null_ptr) is)
 
 -- ---- writing a link
 
 module _ {X : Type 0} where
   -- where one node is written, and one of its links is what it was, the other one alone is changed
-  pub next-alone : (p : Ptr) (next : Option Ptr) (bs : List (NodeAt X)) (node : Node X) → places bs ≡ p ∷ [] → node ≡ (slice_index_or bs 0 (p, node)).1
+  pub next-alone : (p : Ptr) (next : Option Ptr) (bs : List (NodeAt X)) (node : Node X) → addresses bs ≡ p ∷ [] → node ≡ (slice_index_or bs 0 (p, node)).1
       → map {B = NodeAt X} (λ (b : NodeAt X). (b.0, record b.1 { next = next; prev = node.prev })) bs ≡ map {B = NodeAt X} (λ (b : NodeAt X). (b.0, record b.1 { next = next })) bs
   next-alone p next [] node is read = refl
   next-alone p next (b ∷ []) node is read = ap (λ (n : Node X). (b.0, record b.1 { next = next; prev = n.prev }) ∷ []) read
   next-alone p next (b ∷ c ∷ bs) node is read = absurd (omega (arith, ap length is))
 
-  pub prev-alone : (p : Ptr) (prev : Option Ptr) (bs : List (NodeAt X)) (node : Node X) → places bs ≡ p ∷ [] → node ≡ (slice_index_or bs 0 (p, node)).1
+  pub prev-alone : (p : Ptr) (prev : Option Ptr) (bs : List (NodeAt X)) (node : Node X) → addresses bs ≡ p ∷ [] → node ≡ (slice_index_or bs 0 (p, node)).1
       → map {B = NodeAt X} (λ (b : NodeAt X). (b.0, record b.1 { next = node.next; prev = prev })) bs ≡ map {B = NodeAt X} (λ (b : NodeAt X). (b.0, record b.1 { prev = prev })) bs
   prev-alone p prev [] node is read = refl
   prev-alone p prev (b ∷ []) node is read = ap (λ (n : Node X). (b.0, record b.1 { next = n.next; prev = prev }) ∷ []) read
@@ -207,52 +207,52 @@ module _ {X : Type 0} where
         on-append None front cs (subst (LeadOn front) at (on-with_next next z (b ∷ bs) on)) behind,
       )
 
-  front-more : (h t last next : Option Ptr) (b : NodeAt X) (bs ahead : List (NodeAt X)) → IsPlace h t last next (b ∷ bs) ahead → IsChain h last (with_next None (b ∷ bs))
-  front-more h t last next b bs ahead place = record {
-    head_is = place.chain.head_is ∙ sym (first-with_next None None (b ∷ bs));
-    tail_is = place.last_is ∙ sym (last-with_next None None (b ∷ bs));
-    on = on-with_next (first_or None ahead) None (b ∷ bs) (on-front None (b ∷ bs) ahead place.chain.on);
-    back = back-with_next None None (b ∷ bs) (back-front None (b ∷ bs) ahead place.chain.back);
+  front-more : (h t last next : Option Ptr) (b : NodeAt X) (bs ahead : List (NodeAt X)) → IsAddress h t last next (b ∷ bs) ahead → IsChain h last (with_next None (b ∷ bs))
+  front-more h t last next b bs ahead address = record {
+    head_is = address.chain.head_is ∙ sym (first-with_next None None (b ∷ bs));
+    tail_is = address.last_is ∙ sym (last-with_next None None (b ∷ bs));
+    on = on-with_next (first_or None ahead) None (b ∷ bs) (on-front None (b ∷ bs) ahead address.chain.on);
+    back = back-with_next None None (b ∷ bs) (back-front None (b ∷ bs) ahead address.chain.back);
   }
 
-  back-more : (h t last next : Option Ptr) (passed : List (NodeAt X)) (b : NodeAt X) (bs : List (NodeAt X)) → IsPlace h t last next passed (b ∷ bs) → IsChain next t (with_prev None (b ∷ bs))
-  back-more h t last next passed b bs place = record {
-    head_is = place.next_is;
-    tail_is = place.chain.tail_is ∙ last-append None passed (b ∷ bs);
-    on = on-with_prev None None (b ∷ bs) (on-back None passed (b ∷ bs) place.chain.on);
-    back = back-with_prev (last_or None passed) None (b ∷ bs) (back-back None passed (b ∷ bs) place.chain.back);
+  back-more : (h t last next : Option Ptr) (passed : List (NodeAt X)) (b : NodeAt X) (bs : List (NodeAt X)) → IsAddress h t last next passed (b ∷ bs) → IsChain next t (with_prev None (b ∷ bs))
+  back-more h t last next passed b bs address = record {
+    head_is = address.next_is;
+    tail_is = address.chain.tail_is ∙ last-append None passed (b ∷ bs);
+    on = on-with_prev None None (b ∷ bs) (on-back None passed (b ∷ bs) address.chain.on);
+    back = back-with_prev (last_or None passed) None (b ∷ bs) (back-back None passed (b ∷ bs) address.chain.back);
   }
 
-  -- a chain is parted at a place: what was passed is one, and what is ahead is one
-  pub front-chain : (h t last next : Option Ptr) (p : Ptr) (passed ahead : List (NodeAt X)) → last ≡ Some p → IsPlace h t last next passed ahead → IsChain h last (with_next None passed)
-  front-chain h t last next p [] ahead is place = absurd (none-some p (sym place.last_is ∙ is))
-  front-chain h t last next p (b ∷ bs) ahead is place = front-more h t last next b bs ahead place
+  -- a chain is parted at a position: what was passed is one, and what is ahead is one
+  pub front-chain : (h t last next : Option Ptr) (p : Ptr) (passed ahead : List (NodeAt X)) → last ≡ Some p → IsAddress h t last next passed ahead → IsChain h last (with_next None passed)
+  front-chain h t last next p [] ahead is address = absurd (none-some p (sym address.last_is ∙ is))
+  front-chain h t last next p (b ∷ bs) ahead is address = front-more h t last next b bs ahead address
 
-  pub back-chain : (h t last next : Option Ptr) (p : Ptr) (passed ahead : List (NodeAt X)) → next ≡ Some p → IsPlace h t last next passed ahead → IsChain next t (with_prev None ahead)
-  back-chain h t last next p passed [] is place = absurd (none-some p (sym place.next_is ∙ is))
-  back-chain h t last next p passed (b ∷ bs) is place = back-more h t last next passed b bs place
+  pub back-chain : (h t last next : Option Ptr) (p : Ptr) (passed ahead : List (NodeAt X)) → next ≡ Some p → IsAddress h t last next passed ahead → IsChain next t (with_prev None ahead)
+  back-chain h t last next p passed [] is address = absurd (none-some p (sym address.next_is ∙ is))
+  back-chain h t last next p passed (b ∷ bs) is address = back-more h t last next passed b bs address
 
   -- where no node was passed, all are ahead
-  pub all-ahead : (h t last next : Option Ptr) (passed ahead : List (NodeAt X)) → last ≡ None → IsPlace h t last next passed ahead → (passed ≡ []) × IsChain h t ahead
-  all-ahead h t last next [] ahead is place = (refl, place.chain)
-  all-ahead h t last next (b ∷ bs) ahead is place = absurd (last-some b bs (sym place.last_is ∙ is))
+  pub all-ahead : (h t last next : Option Ptr) (passed ahead : List (NodeAt X)) → last ≡ None → IsAddress h t last next passed ahead → (passed ≡ []) × IsChain h t ahead
+  all-ahead h t last next [] ahead is address = (refl, address.chain)
+  all-ahead h t last next (b ∷ bs) ahead is address = absurd (last-some b bs (sym address.last_is ∙ is))
 
-  -- ---- places
+  -- ---- positions
 
   -- one node further
-  pub next-place : (h t last next : Option Ptr) (p : Ptr) (passed ahead : List (NodeAt X)) (node : Node X) → next ≡ Some p → IsPlace h t last next passed ahead
-      → node ≡ (slice_index_or (take 1 ahead) 0 (p, node)).1 → IsPlace h t next node.next (passed ++ take 1 ahead) (drop 1 ahead)
-  next-place h t last next p passed [] node is place read = absurd (none-some p (sym place.next_is ∙ is))
-  next-place h t last next p passed (b ∷ ahead) node is place read = record {
-    chain = subst (IsChain h t) (sym (append_assoc passed (b ∷ []) ahead)) place.chain;
-    last_is = place.next_is ∙ sym (last-append None passed (b ∷ []));
-    next_is = ap (λ n. n.next) read ∙ (on-back None passed (b ∷ ahead) place.chain.on).0;
+  pub next-address : (h t last next : Option Ptr) (p : Ptr) (passed ahead : List (NodeAt X)) (node : Node X) → next ≡ Some p → IsAddress h t last next passed ahead
+      → node ≡ (slice_index_or (take 1 ahead) 0 (p, node)).1 → IsAddress h t next node.next (passed ++ take 1 ahead) (drop 1 ahead)
+  next-address h t last next p passed [] node is address read = absurd (none-some p (sym address.next_is ∙ is))
+  next-address h t last next p passed (b ∷ ahead) node is address read = record {
+    chain = subst (IsChain h t) (sym (append_assoc passed (b ∷ []) ahead)) address.chain;
+    last_is = address.next_is ∙ sym (last-append None passed (b ∷ []));
+    next_is = ap (λ n. n.next) read ∙ (on-back None passed (b ∷ ahead) address.chain.on).0;
   }
 
   -- before the last node
-  pub last-place : (h t : Option Ptr) (p : Ptr) (bs front end : List (NodeAt X)) (node : Node X) → t ≡ Some p → IsChain h t bs → front ≡ take (length bs - 1) bs → end ≡ drop (length bs - 1) bs
-      → node ≡ (slice_index_or end 0 (p, node)).1 → IsPlace h t node.prev t front end
-  last-place h t p bs front end node is chain front_is end_is read =
+  pub last-address : (h t : Option Ptr) (p : Ptr) (bs front end : List (NodeAt X)) (node : Node X) → t ≡ Some p → IsChain h t bs → front ≡ take (length bs - 1) bs → end ≡ drop (length bs - 1) bs
+      → node ≡ (slice_index_or end 0 (p, node)).1 → IsAddress h t node.prev t front end
+  last-address h t p bs front end node is chain front_is end_is read =
       let l = last-of p bs (sym chain.tail_is ∙ is) in
       let f : front ≡ l.front = front_is ∙ take-last p bs l in
       let e : end ≡ (p, l.content) ∷ [] = end_is ∙ drop-last p bs l in

@@ -22,16 +22,16 @@ use denote.Struct.Owning.{shape}
 use denote.Struct.Lending.{lent_at}
 use Rattle.std.proofs.GlobalToken.{dealloc_token-Testable}
 use Rattle.std_alloc.specs.Box.Ownership.{box_owns}
-use Rattle.vt_nodes.specs.inside.Blocks.{may_free, blocks_owned, blocks_lent, places, place_at}
+use Rattle.vt_nodes.specs.inside.Blocks.{may_free, blocks_owned, blocks_lent, addresses, address_at}
 use Rattle.vt_nodes.specs.contracts.blocks.Blocks as blocks
 
--- the first of some places, or q
+-- the first of some addresses, or q
 abbrev head_or : Ptr → List Ptr → Ptr
 head_or q [] = q
 head_or q (p ∷ ps) = p
 
--- blocks of which one place is known are one block
-pub only-block : {X : Type 0} (p : Ptr) (bs : List (Ptr × X)) → places bs ≡ p ∷ [] → (x : X) × (bs ≡ (p, x) ∷ [])
+-- blocks of which one address is known are one block
+pub only-block : {X : Type 0} (p : Ptr) (bs : List (Ptr × X)) → addresses bs ≡ p ∷ [] → (x : X) × (bs ≡ (p, x) ∷ [])
 only-block p [] e = absurd (omega (arith, ap length e))
 only-block p (b ∷ []) e = (b.1, ap (λ ps. (head_or p ps, b.1) ∷ []) e)
 only-block p (b ∷ c ∷ bs) e = absurd (omega (arith, ap length e))
@@ -58,14 +58,14 @@ module _ {M : Type 1} {𝓤 : Ura M} (𝓛 : Logic 𝓤) (R : RattleType) where
       let may = via 𝓤 free (snd∗ 𝓤 lies free) (dealloc_token-Testable 𝓛 (record { memory = record { seal = tt } }) (bare (lone R.mir)) p) in
       fact_use 𝓤 (Testable p) may (guard_i 𝓤 (Testable p) (sem 𝓛 (box_owns may_free R p x)))
 
-  -- of two rows of blocks, one
+  -- of two lists of blocks, one
   pub joined : (bs cs : List (Ptr × R.Denot)) → ent 𝓤 (sep 𝓤 (sem 𝓛 (blocks_owned R bs)) (sem 𝓛 (blocks_owned R cs))) (sem 𝓛 (blocks_owned R (bs ++ cs)))
   joined [] cs = qed 𝓛 (‵ ftrue ∷ ‵ (blocks_owned R cs) ∷ []) ∵ drop ! $ done !
   joined (b ∷ bs) cs =
       qed 𝓛 (‵ (fsep (box_owns may_free R b.0 b.1) (blocks_owned R bs)) ∷ ‵ (blocks_owned R cs) ∷ []) ∵ fsplit ! $
       move ! (1 ∷ 2 ∷ []) $ use2 𝓛 (‵ (blocks_owned R (bs ++ cs))) (joined bs cs) $ move ! (1 ∷ 0 ∷ []) $ fjoin ! $ done !
 
-  -- of one row, two
+  -- of one list, two
   pub parted : (bs cs : List (Ptr × R.Denot)) → ent 𝓤 (sem 𝓛 (blocks_owned R (bs ++ cs))) (sep 𝓤 (sem 𝓛 (blocks_owned R bs)) (sem 𝓛 (blocks_owned R cs)))
   parted [] cs = qed 𝓛 (‵ (blocks_owned R cs) ∷ []) ∵ nothing ! $ done !
   parted (b ∷ bs) cs =
@@ -81,7 +81,7 @@ module _ {M : Type 1} {𝓤 : Ura M} (𝓛 : Logic 𝓤) (R : RattleType) where
 
     -- who holds a `&` to blocks holds one to the content of each
     pub seen : (bs : List (Ptr × R.Denot)) (index : ℕ) → index < length bs
-        → (b : Ptr × R.Denot) × (place_at bs index ≡ b.0) × ((c : Ptr × R.Denot) → slice_index_or bs index c ≡ b) × ent 𝓤 (sem 𝓛 (Lent bs)) (sem 𝓛 (Seen b))
+        → (b : Ptr × R.Denot) × (address_at bs index ≡ b.0) × ((c : Ptr × R.Denot) → slice_index_or bs index c ≡ b) × ent 𝓤 (sem 𝓛 (Lent bs)) (sem 𝓛 (Seen b))
     seen [] index within = absurd (omega arith)
     seen (b ∷ bs) zero within = (b, refl, (λ c. refl), fst∗ 𝓤 (sem 𝓛 (Seen b)) (sem 𝓛 (Lent bs)))
     seen (b ∷ bs) (suc index) within =

@@ -15,7 +15,7 @@ module _ {X : Type 0} where
   advanced-suc (suc n) [] = refl
   advanced-suc (suc n) (x ∷ all) = advanced-more x (take n all) (drop n all) ∙ ap (λ c. (x ∷ c.0, c.1)) (advanced-suc n all)
 
-  -- a place at index n, one item further
+  -- a position at index n, one item further
   pub advanced-at : (n : ℕ) (all : List X) (c : List X × List X) → c.0 ≡ take n all → c.1 ≡ drop n all → advanced c ≡ (take (n + 1) all, drop (n + 1) all)
   advanced-at n all c e f =
       let next : suc n ≡ n + 1 = omega arith in

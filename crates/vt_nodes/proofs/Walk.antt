@@ -1,4 +1,4 @@
--- The words that every walk of this crate uses, in one place.
+-- The words that every walk of this crate uses, in one file.
 pub use Rattle.std.proofs.Common.{◌≡◌, ℕ, ◌<◌, List, [], ◌∷◌, ◌++◌, refl, sym, ap, ◌∙◌, subst}
 pub use mir.Syntax.{a_type}
 pub use mir.Val.{Val, vptr}

@@ -1,5 +1,5 @@
+pub mod Address
 pub mod Blocks
 pub mod First
 pub mod Lines
 pub mod Linked
-pub mod Place

@@ -2,13 +2,13 @@
 
 ghost use Rattle.std.specs.Prelude.{◌≡◌, ℕ, ◌<◌, List, [], ◌∷◌, ◌++◌, take, drop, length, slice_index_or};
 ghost use denote.RawPtr.{Ptr};
-ghost use Rattle.vt_nodes.specs.inside.Blocks.{blocks_owned, blocks_lent, places, contents, place_at};
-ghost use Rattle.vt_nodes.specs.inside.Place.{IsSomewhere};
+ghost use Rattle.vt_nodes.specs.inside.Blocks.{blocks_owned, blocks_lent, addresses, contents, address_at};
+ghost use Rattle.vt_nodes.specs.inside.Address.{IsSomewhere};
 
 use std::alloc::Global;
 use std::marker::{Model, PhantomData};
 
-/// Some blocks of the allocator `Global`, in a row, each with its address and content. A value of this type takes no
+/// Some blocks of the allocator `Global`, in order, each with its address and content. A value of this type takes no
 /// space: it is the right to use these blocks and to free them, and knows nothing of the pointers among them.
 ///
 /// It is not `Drop`, so code that loses a block is refused.
@@ -35,7 +35,7 @@ impl<N> Blocks<N> {
         Blocks { mark: PhantomData }
     }
 
-    /// Ends a row without blocks.
+    /// Ends a list without blocks.
     pub(crate) fn end(self)
         requires { self.owned ≡ [] }
     {
@@ -63,7 +63,7 @@ impl<N> Blocks<N> {
     /// The content of block `index`, which lies at `at`.
     pub fn get(&self, at: *mut N) -> &N
         ghost index: { ℕ }
-        requires { (index < length self.now.owned) × (place_at self.now.owned index ≡ at) }
+        requires { (index < length self.now.owned) × (address_at self.now.owned index ≡ at) }
         ensures { result.now ≡ (slice_index_or self.now.owned index (at, result.now)).1 }
     {
         unsafe { &*at }
@@ -85,7 +85,7 @@ impl<N> Blocks<N> {
         self.part()
     }
 
-    // Some blocks in a row, behind the first `range.0` and `range.1` in all, for as long as the blocks are lent.
+    // The `range.1` blocks behind the first `range.0`, for as long as the blocks are lent.
     fn part(&self) -> &Blocks<N>
         ghost range: { ℕ × ℕ }
         ensures { result.now.owned ≡ take range.1 (drop range.0 self.now.owned) }
@@ -95,7 +95,7 @@ impl<N> Blocks<N> {
 
     /// The one block, which lies at `at`, as a box.
     pub(crate) fn into_box(self, at: *mut N, alloc: Global) -> Box<N>
-        requires { places self.owned ≡ at ∷ [] }
+        requires { addresses self.owned ≡ at ∷ [] }
         ensures { contents self.owned ≡ result.value ∷ [] }
     {
         let Blocks { mark: _ } = self;

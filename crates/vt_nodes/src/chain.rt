@@ -83,7 +83,7 @@ impl<T> Chain<T> {
         ensures variant { IsSome result ↔ (0 < length self.now) }
         ensures lookup { IfSome result (λ x. x.now ≡ slice_index_or self.now (length self.now - 1) x.now) }
     {
-        let Some(tail) = self.tail.place() else {
+        let Some(tail) = self.tail.address() else {
             return None;
         };
         Some(&self.nodes.get(tail).item)
@@ -93,11 +93,11 @@ impl<T> Chain<T> {
     pub fn join(self, other: Chain<T>) -> Chain<T>
         ensures { result ≡ self ++ other }
     {
-        let Some(end) = self.tail.place() else {
+        let Some(end) = self.tail.address() else {
             self.end();
             return other;
         };
-        let Some(start) = other.head.place() else {
+        let Some(start) = other.head.address() else {
             other.end();
             return self;
         };
@@ -126,7 +126,7 @@ impl<T> Chain<T> {
             tail: _,
             nodes,
         } = self;
-        let Some(at) = head.place() else {
+        let Some(at) = head.address() else {
             nodes.end();
             return None;
         };

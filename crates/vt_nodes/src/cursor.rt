@@ -26,13 +26,13 @@ pub(crate) struct Cursor<T> {
 
 impl<T> Model for Cursor<T> {
     ghost use Rattle.std.specs.Prelude.{List};
-    ghost use Rattle.vt_nodes.specs.inside.Linked.{IsPlace, items};
+    ghost use Rattle.vt_nodes.specs.inside.Linked.{IsAddress, items};
 
     ghost Value = { List T × List T };
 
     ghost view = { λ c. (items c.passed.owned, items c.ahead.owned) };
 
-    ghost invariant = { λ c. IsPlace c.head c.tail c.last c.next c.passed.owned c.ahead.owned };
+    ghost invariant = { λ c. IsAddress c.head c.tail c.last c.next c.passed.owned c.ahead.owned };
 }
 
 impl<T> Cursor<T> {
@@ -55,7 +55,7 @@ impl<T> Cursor<T> {
     fn before_last(chain: Chain<T>) -> Cursor<T>
         ensures { result ≡ (take (length chain - 1) chain, drop (length chain - 1) chain) }
     {
-        let Some(last) = chain.tail.place() else {
+        let Some(last) = chain.tail.address() else {
             return Cursor::at_front(chain);
         };
         let Chain { head, tail, nodes } = chain;
@@ -75,7 +75,7 @@ impl<T> Cursor<T> {
     fn peek(&self) -> Option<&T>
         ensures { MatchOption result (self.now.1 ≡ []) (λ x. take 1 self.now.1 ≡ x.now ∷ []) }
     {
-        let Some(next) = self.next.place() else {
+        let Some(next) = self.next.address() else {
             return None;
         };
         Some(&self.ahead.get(next).item)
@@ -100,7 +100,7 @@ impl<T> Cursor<T> {
             passed,
             ahead,
         } = self;
-        let Some(at) = next.place() else {
+        let Some(at) = next.address() else {
             return Cursor {
                 head,
                 tail,
@@ -134,7 +134,7 @@ impl<T> Cursor<T> {
             passed,
             ahead,
         } = self;
-        let Some(end) = last.place() else {
+        let Some(end) = last.address() else {
             passed.end();
             let back = Chain {
                 head,
@@ -143,7 +143,7 @@ impl<T> Cursor<T> {
             };
             return (Chain::new(), back);
         };
-        let Some(start) = next.place() else {
+        let Some(start) = next.address() else {
             ahead.end();
             let front = Chain {
                 head,

@@ -1,10 +1,10 @@
 //! Nodes of linked lists: who owns them, and how they are linked by raw pointers.
 //!
 //! Lists are built on these types. Each part of a list is a value that owns its nodes: a [`Chain`] is linked both ways,
-//! a [`Trail`] one way, and a [`Row`] is trails whose first nodes lead to each other. A walk by a [`Predicate`] or by a
-//! count parts such a value in two. Parting and joining write one link or two, and take no memory.
+//! a [`Trail`] one way, and [`Trails`] are trails whose first nodes lead to each other. A walk by a [`Predicate`] or by
+//! a count parts such a value in two. Parting and joining write one link or two, and take no memory.
 //!
-//! Contracts see each of them as the list of its items, and a row as the list of such lists.
+//! Contracts see each of them as the list of its items, and trails as the list of such lists.
 //!
 //! None of them can be dropped. Each ends only by `end`, which asks that no node is left, so code that loses a node is
 //! refused.
@@ -18,8 +18,8 @@
 //! - `node` has the links and the only raw write.
 //! - `chain` is nodes that are linked both ways, with their two ends; `cursor` is a position in a chain, where it can
 //!   be split.
-//! - `trail` is nodes that are linked one way; `path` is a position in a trail; `row` is trails whose first nodes lead to
-//!   each other; `passing` is a position in a row.
+//! - `trail` is nodes that are linked one way; `path` is a position in a trail; `trails` is trails whose first nodes
+//!   lead to each other; `passing` is a position among trails.
 //!
 //! Only `blocks` and one function of `node` are proved by hand. The rest is plain code that follows no raw pointer.
 #![tactic(auto)]
@@ -32,16 +32,16 @@ mod node;
 mod passing;
 mod path;
 mod predicate;
-mod row;
 mod trail;
+mod trails;
 
 pub use blocks::Blocks;
 pub use chain::Chain;
 pub use cursor::{split_at, split_at_first, take_first, take_last};
 pub use link::Link;
 pub use node::Node;
-pub use passing::{Passed, pass_row};
+pub use passing::{Passed, pass_trails};
 pub use path::{Beginning, part_at_first};
 pub use predicate::Predicate;
-pub use row::Row;
 pub use trail::Trail;
+pub use trails::Trails;

@@ -1,7 +1,7 @@
 //! Pointers that may be null.
 
 ghost use Rattle.std.specs.Prelude.{◌≡◌, ◌↔◌, None, Some, IsTrue};
-ghost use Rattle.vt_nodes.specs.inside.Place.{IsSomewhere};
+ghost use Rattle.vt_nodes.specs.inside.Address.{IsSomewhere};
 
 use std::marker::Model;
 use std::ptr::{NonNull, null_mut};
@@ -19,19 +19,19 @@ impl Model for Link {
     ghost use Rattle.std.specs.Coded.{coded_option};
     ghost use Rattle.std.proofs.Common.{ap};
     ghost use denote.RawPtr.{Ptr, Testable, coded_ptr};
-    ghost use Rattle.vt_nodes.specs.inside.Place.{place_of, pointer_of, pointer_of-place};
+    ghost use Rattle.vt_nodes.specs.inside.Address.{address_of, pointer_of, pointer_of-address};
 
     ghost Value = { Option Ptr };
 
     ghost coded = { coded_option coded_ptr };
 
-    ghost view = { λ l. place_of l.at };
+    ghost view = { λ l. address_of l.at };
 
     ghost invariant = { λ l. Testable l.at };
 
-    ghost inverse = { λ place. record { at = pointer_of place } };
+    ghost inverse = { λ address. record { at = pointer_of address } };
 
-    ghost inverse_ok = { λ l h. ap (λ p. record { at = p }) (pointer_of-place l.at) };
+    ghost inverse_ok = { λ l h. ap (λ p. record { at = p }) (pointer_of-address l.at) };
 }
 
 // It owns nothing, so it may go to another thread.
@@ -50,9 +50,9 @@ impl Link {
         requires { IsSomewhere at }
         ensures { result ≡ Some at }
     {
-        let place = unsafe { NonNull::new_unchecked(at) };
+        let address = unsafe { NonNull::new_unchecked(at) };
         Link {
-            at: place.cast().as_ptr(),
+            at: address.cast().as_ptr(),
         }
     }
 
@@ -64,10 +64,10 @@ impl Link {
     }
 
     /// The address; None if the link is null.
-    pub fn place<N>(self) -> Option<*mut N>
+    pub fn address<N>(self) -> Option<*mut N>
         ensures { result ≡ self }
     {
-        let place = NonNull::new(self.at)?;
-        Some(place.cast().as_ptr())
+        let address = NonNull::new(self.at)?;
+        Some(address.cast().as_ptr())
     }
 }

@@ -1,7 +1,7 @@
 //! A node of a list, and the writes of its links.
 
 ghost use Rattle.std.specs.Prelude.{◌≡◌, [], ◌∷◌, map, None, Some};
-ghost use Rattle.vt_nodes.specs.inside.Blocks.{places};
+ghost use Rattle.vt_nodes.specs.inside.Blocks.{addresses};
 ghost use Rattle.vt_nodes.specs.inside.Linked.{first_or, last_or, with_next, with_prev};
 
 use crate::blocks::Blocks;
@@ -12,7 +12,7 @@ use crate::link::Link;
 pub struct Node<T> {
     /// Where the node behind it lies, or nothing.
     pub next: Link,
-    /// In a chain, where the node in front of it lies, or nothing. In a row, where the next trail begins.
+    /// In a chain, where the node in front of it lies, or nothing. Among trails, where the next trail begins.
     pub prev: Link,
     /// The item.
     pub item: T,
@@ -20,7 +20,7 @@ pub struct Node<T> {
 
 /// The one node, which lies at `at`, with both links set.
 fn set_links<T>(node: Blocks<Node<T>>, at: *mut Node<T>, next: Link, prev: Link) -> Blocks<Node<T>>
-    requires { places node.owned ≡ at ∷ [] }
+    requires { addresses node.owned ≡ at ∷ [] }
     ensures { result.owned ≡ map (λ b. (b.0, record b.1 { next = next; prev = prev })) node.owned }
 {
     unsafe {
@@ -32,7 +32,7 @@ fn set_links<T>(node: Blocks<Node<T>>, at: *mut Node<T>, next: Link, prev: Link)
 
 /// The one node, which lies at `at`, with its forward link set to `next`.
 pub(crate) fn set_next<T>(node: Blocks<Node<T>>, at: *mut Node<T>, next: Link) -> Blocks<Node<T>>
-    requires { places node.owned ≡ at ∷ [] }
+    requires { addresses node.owned ≡ at ∷ [] }
     ensures { result.owned ≡ map (λ b. (b.0, record b.1 { next = next })) node.owned }
 {
     let prev = node.get(at).prev;
@@ -41,7 +41,7 @@ pub(crate) fn set_next<T>(node: Blocks<Node<T>>, at: *mut Node<T>, next: Link) -
 
 /// The one node, which lies at `at`, with its back link set to `prev`.
 pub(crate) fn set_prev<T>(node: Blocks<Node<T>>, at: *mut Node<T>, prev: Link) -> Blocks<Node<T>>
-    requires { places node.owned ≡ at ∷ [] }
+    requires { addresses node.owned ≡ at ∷ [] }
     ensures { result.owned ≡ map (λ b. (b.0, record b.1 { prev = prev })) node.owned }
 {
     let next = node.get(at).next;

@@ -1,4 +1,4 @@
-//! A position in a row.
+//! A position among trails.
 
 ghost use Rattle.std.specs.Prelude.{◌≡◌, [], ◌++◌, IfNone};
 ghost use Rattle.std.specs.Option.{option_copied};
@@ -10,14 +10,14 @@ use crate::blocks::Blocks;
 use crate::link::Link;
 use crate::node::{Node, set_first_prev};
 use crate::predicate::Predicate;
-use crate::row::Row;
+use crate::trails::Trails;
 use std::marker::Model;
 
-/// A row with a position in it. A clause sees the trails that were passed, and those ahead.
+/// Trails with a position among them. A clause sees the trails that were passed, and those ahead.
 ///
 /// The nodes stay linked as they were. Going on reads one link. The last trail that was passed is kept apart from those
 /// before it, since its first node is written where other trails come behind it.
-pub(crate) struct RowPath<T> {
+pub(crate) struct TrailsPath<T> {
     head: Link,
     last: Link,
     next: Link,
@@ -26,25 +26,25 @@ pub(crate) struct RowPath<T> {
     ahead: Blocks<Node<T>>,
 }
 
-impl<T> Model for RowPath<T> {
+impl<T> Model for TrailsPath<T> {
     ghost use Rattle.std.specs.Prelude.{◌≡◌, ◌++◌, List, None, map};
     ghost use Rattle.vt_nodes.specs.inside.Linked.{first_or, items};
-    ghost use Rattle.vt_nodes.specs.inside.Lines.{lines_of, StandInRow, ArePassed};
+    ghost use Rattle.vt_nodes.specs.inside.Lines.{lines_of, AreTrails, ArePassed};
 
     ghost Value = { List (List T) × List (List T) };
 
     ghost view = { λ p. (map items (lines_of (p.before.owned ++ p.line.owned)), map items (lines_of p.ahead.owned)) };
 
-    ghost invariant = { λ p. ArePassed p.head p.last p.next p.before.owned p.line.owned × (p.next ≡ first_or None p.ahead.owned) × StandInRow None (lines_of p.ahead.owned) };
+    ghost invariant = { λ p. ArePassed p.head p.last p.next p.before.owned p.line.owned × (p.next ≡ first_or None p.ahead.owned) × AreTrails None (lines_of p.ahead.owned) };
 }
 
-impl<T> RowPath<T> {
+impl<T> TrailsPath<T> {
     /// The position in front of the first trail.
-    fn at_front(row: Row<T>) -> RowPath<T>
-        ensures { result ≡ ([], row) }
+    fn at_front(trails: Trails<T>) -> TrailsPath<T>
+        ensures { result ≡ ([], trails) }
     {
-        let Row { head, nodes } = row;
-        RowPath {
+        let Trails { head, nodes } = trails;
+        TrailsPath {
             head,
             last: Link::none(),
             next: head,
@@ -59,17 +59,17 @@ impl<T> RowPath<T> {
         ensures item { option_copied result ≡ first_item self.now.1 }
         ensures none { IfNone result (self.now.1 ≡ []) }
     {
-        let Some(next) = self.next.place() else {
+        let Some(next) = self.next.address() else {
             return None;
         };
         Some(&self.ahead.get(next).item)
     }
 
     /// One trail further; unchanged at the end.
-    fn advance(self) -> RowPath<T>
+    fn advance(self) -> TrailsPath<T>
         ensures { result ≡ advanced self }
     {
-        let RowPath {
+        let TrailsPath {
             head,
             last,
             next,
@@ -77,8 +77,8 @@ impl<T> RowPath<T> {
             line,
             ahead,
         } = self;
-        let Some(at) = next.place() else {
-            return RowPath {
+        let Some(at) = next.address() else {
+            return TrailsPath {
                 head,
                 last,
                 next,
@@ -89,7 +89,7 @@ impl<T> RowPath<T> {
         };
         let after = ahead.get(at).prev;
         let (first, rest) = ahead.split();
-        RowPath {
+        TrailsPath {
             head,
             last: next,
             next: after,
@@ -110,10 +110,10 @@ impl<T> RowPath<T> {
     }
 
     /// The trails that were passed, and those ahead. It writes no node.
-    fn part(self) -> (Passed<T>, Row<T>)
+    fn part(self) -> (Passed<T>, Trails<T>)
         ensures { (result.0 ≡ self.0) × (result.1 ≡ self.1) }
     {
-        let RowPath {
+        let TrailsPath {
             head,
             last,
             next,
@@ -128,7 +128,7 @@ impl<T> RowPath<T> {
             before,
             line,
         };
-        let rest = Row {
+        let rest = Trails {
             head: next,
             nodes: ahead,
         };
@@ -136,7 +136,7 @@ impl<T> RowPath<T> {
     }
 }
 
-/// The first trails of a row, which a walk passed. The last of them still leads on to the trail behind it. Contracts see
+/// The first of some trails, which a walk passed. The last of them still leads on to the trail behind it. Contracts see
 /// the list of the lists of their items.
 ///
 /// It is not `Drop`, so code that doesn't join them to the others again is refused.
@@ -162,7 +162,7 @@ impl<T> Model for Passed<T> {
 
 impl<T> Passed<T> {
     /// These trails, with `rest` behind them. It writes only the first node of the last of these trails.
-    pub fn join(self, rest: Row<T>) -> Row<T>
+    pub fn join(self, rest: Trails<T>) -> Trails<T>
         ensures { result ≡ self ++ rest }
     {
         let Passed {
@@ -172,17 +172,17 @@ impl<T> Passed<T> {
             before,
             line,
         } = self;
-        let Some(start) = last.place() else {
+        let Some(start) = last.address() else {
             before.end();
             line.end();
             return rest;
         };
-        let Row {
+        let Trails {
             head: next,
             nodes: more,
         } = rest;
         let joined = set_first_prev(line, start, next).append(more);
-        Row {
+        Trails {
             head,
             nodes: before.append(joined),
         }
@@ -190,12 +190,12 @@ impl<T> Passed<T> {
 }
 
 /// The trails before the first one whose first item passes the test, and the others.
-pub fn pass_row<T, P: Predicate<T>>(row: Row<T>, test: &P) -> (Passed<T>, Row<T>)
-    ensures before { result.0 ≡ before_first (begins_with (P.passes test.now)) row }
-    ensures from { result.1 ≡ from_first (begins_with (P.passes test.now)) row }
-    ensures whole { row ≡ result.0 ++ result.1 }
+pub fn pass_trails<T, P: Predicate<T>>(trails: Trails<T>, test: &P) -> (Passed<T>, Trails<T>)
+    ensures before { result.0 ≡ before_first (begins_with (P.passes test.now)) trails }
+    ensures from { result.1 ≡ from_first (begins_with (P.passes test.now)) trails }
+    ensures whole { trails ≡ result.0 ++ result.1 }
 {
-    let mut path = RowPath::at_front(row);
+    let mut path = TrailsPath::at_front(trails);
     while path.next_fails(test) {
         path = path.advance();
     }

@@ -52,7 +52,7 @@ impl<T> Path<T> {
     fn peek(&self) -> Option<&T>
         ensures { MatchOption result (self.now.1 ≡ []) (λ x. take 1 self.now.1 ≡ x.now ∷ []) }
     {
-        let Some(next) = self.next.place() else {
+        let Some(next) = self.next.address() else {
             return None;
         };
         Some(&self.ahead.get(next).item)
@@ -69,7 +69,7 @@ impl<T> Path<T> {
             passed,
             ahead,
         } = self;
-        let Some(at) = next.place() else {
+        let Some(at) = next.address() else {
             return Path {
                 head,
                 last,
@@ -157,7 +157,7 @@ impl<T> Beginning<T> {
             next: _,
             nodes,
         } = self;
-        let Some(end) = last.place() else {
+        let Some(end) = last.address() else {
             nodes.end();
             return rest;
         };

@@ -78,7 +78,7 @@ impl<T> Trail<T> {
     pub fn first(&self) -> Option<&T>
         ensures { option_copied result ≡ slice_get self.now 0 }
     {
-        let Some(head) = self.head.place() else {
+        let Some(head) = self.head.address() else {
             return None;
         };
         Some(&self.nodes.get(head).item)
@@ -89,7 +89,7 @@ impl<T> Trail<T> {
         ensures { MatchOption result.0 ((self ≡ []) × (result.1 ≡ [])) (λ n. self ≡ n.value.item ∷ result.1) }
     {
         let Trail { head, nodes } = self;
-        let Some(at) = head.place() else {
+        let Some(at) = head.address() else {
             return (None, Trail { head, nodes });
         };
         let (one, others) = nodes.split();
@@ -105,7 +105,7 @@ impl<T> Trail<T> {
     pub fn with_chain(self, chain: Chain<T>) -> Trail<T>
         ensures { result ≡ chain ++ self }
     {
-        let Some(end) = chain.tail.place() else {
+        let Some(end) = chain.tail.address() else {
             chain.end();
             return self;
         };

@@ -101,7 +101,7 @@ module _ {P : Type 0} where
   insert-first x [] all = refl
   insert-first x (l ∷ ls) all = ap (λ b. if b then x ∷ l ∷ ls else l ∷ insert_letter x ls) (before-rank_before (letter_rank x) (letter_rank l) all.0)
 
-  -- what passes, after a letter that passes was put in its place
+  -- what passes, after a letter that passes was put where it belongs
   pub filter-insert : (p : Letter P → Bool) (x : Letter P) (ls : List (Letter P)) → p x ≡ true → IsRising ls → filter p (insert_letter x ls) ≡ insert_letter x (filter p ls)
   filter-insert p x [] own rises = ap (λ b. if b then x ∷ [] else []) own
   filter-insert p x (l ∷ ls) own rises =

@@ -1,4 +1,4 @@
--- A letter is put into a row where a walk along the lists ends.
+-- A letter is put into the lists where a walk along them ends.
 use Rattle.std.proofs.Common.{Bool, true, false, not, ◌||◌, if◌then◌else◌, ◌≡◌, refl, sym, ap, ◌∙◌, subst}
 use Rattle.std.specs.Prelude.{ℕ, List, [], ◌∷◌, ◌++◌, filter, find, slice_get, Option, Some, None}
 use Rattle.std.specs.Option.{unwrap_or}
@@ -12,11 +12,11 @@ use Rattle.vt_key.proofs.OrderLemmas.{rank_before-true, before-rank_before}
 use Rattle.vt_nodes.specs.inside.First.{before_first, from_first}
 use Rattle.vt_nodes.specs.inside.Lines.{begins_with}
 use Rattle.vt_pending.specs.inside.Letters.{some_has_rank, is_reached}
-use Rattle.vt_pending.specs.inside.Buckets.{bucket_of, in_bucket, not_in_bucket, list_at, without_list, belongs, first_holds, insert_here, insert_in, put_list, IsRow}
+use Rattle.vt_pending.specs.inside.Buckets.{bucket_of, in_bucket, not_in_bucket, list_at, without_list, own_or_not_before, first_holds, insert_here, insert_in, put_list, AreLists}
 use Rattle.vt_pending.proofs.Placing.{not-back, follows}
 use Rattle.vt_pending.proofs.Holding.{before-differs, none-holds, holds-first}
 use Rattle.vt_pending.proofs.Filters.{filter-within}
-use Rattle.vt_pending.proofs.Rows.{own, apart, same-number}
+use Rattle.vt_pending.proofs.Lists.{own, apart, same-number}
 use Rattle.vt_pending.proofs.Kept.{holds-own}
 
 module _ {P : Type 0} where
@@ -49,14 +49,14 @@ module _ {P : Type 0} where
       ]
       ∙ ap (λ (o : Option (Letter P)). if rank_before (letter_rank y) (rank_or o) then (y ∷ ys) ∷ put_list (z ∷ zs) lists else (z ∷ zs) ∷ (y ∷ ys) ∷ lists) (sym is)
 
-  -- a letter in the row from its place on
+  -- a letter in the lists from where it belongs on
   pub insert-parted : (x : Letter P) (lists : List (List (Letter P)))
-      → before_first (begins_with (belongs (letter_rank x))) lists ++ insert_here (own x) x (from_first (begins_with (belongs (letter_rank x))) lists) ≡ insert_in (own x) x lists
+      → before_first (begins_with (own_or_not_before (letter_rank x))) lists ++ insert_here (own x) x (from_first (begins_with (own_or_not_before (letter_rank x))) lists) ≡ insert_in (own x) x lists
   insert-parted x [] = refl
   insert-parted x ([] ∷ lists) = refl
   insert-parted x ((y ∷ ys) ∷ lists) =
       let b : ℕ = own x in let list : List (Letter P) = y ∷ ys in
-      let test : List (Letter P) → Bool = begins_with (belongs (letter_rank x)) in
+      let test : List (Letter P) → Bool = begins_with (own_or_not_before (letter_rank x)) in
       let before : List (List (Letter P)) = before_first test lists in let from : List (List (Letter P)) = from_first test lists in
       let into : List (List (Letter P)) = insert_letter x list ∷ lists in let apart_from : List (List (Letter P)) = (x ∷ list_at b lists) ∷ list ∷ without_list b lists in
       let t : Bool = rank_before (letter_rank y) (letter_rank x) in
@@ -72,12 +72,12 @@ module _ {P : Type 0} where
 
   module _ (r : Rank) where
     -- list b isn't passed
-    pub list-ahead : (lists : List (List (Letter P))) → list_at (bucket_of r) (from_first (begins_with (belongs r)) lists) ≡ list_at (bucket_of r) lists
+    pub list-ahead : (lists : List (List (Letter P))) → list_at (bucket_of r) (from_first (begins_with (own_or_not_before r)) lists) ≡ list_at (bucket_of r) lists
     list-ahead [] = refl
     list-ahead ([] ∷ lists) = refl
     list-ahead ((y ∷ ys) ∷ lists) =
         let b : ℕ = bucket_of r in let list : List (Letter P) = y ∷ ys in let t : Bool = rank_before (letter_rank y) r in
-        let from : List (List (Letter P)) = from_first (begins_with (belongs r)) lists in
+        let from : List (List (Letter P)) = from_first (begins_with (own_or_not_before r)) lists in
         elim (in_bucket b y) as (λ c. in_bucket b y ≡ c → list_at b (if c || not t then list ∷ lists else from) ≡ (if c then list else list_at b lists)) [
           | true ↦ λ e. ap (λ c. if c then list else list_at b lists) e
           | false ↦ λ e.
@@ -88,15 +88,15 @@ module _ {P : Type 0} where
         ] refl
 
     -- a letter of the rank is in the first list ahead, or there is none
-    pub held-ahead : (lists : List (List (Letter P))) (letters : List (Letter P)) → IsRising letters → IsRow lists letters → first_holds (bucket_of r) r (from_first (begins_with (belongs r)) lists) ≡ holds_rank r letters
-    held-ahead [] [] rises row = refl
-    held-ahead [] (x ∷ xs) rises row = absurd row
-    held-ahead (list ∷ lists) [] rises row = absurd row
-    held-ahead (list ∷ lists) (y ∷ ys) rises row =
+    pub held-ahead : (lists : List (List (Letter P))) (letters : List (Letter P)) → IsRising letters → AreLists lists letters → first_holds (bucket_of r) r (from_first (begins_with (own_or_not_before r)) lists) ≡ holds_rank r letters
+    held-ahead [] [] rises listed = refl
+    held-ahead [] (x ∷ xs) rises listed = absurd listed
+    held-ahead (list ∷ lists) [] rises listed = absurd listed
+    held-ahead (list ∷ lists) (y ∷ ys) rises listed =
         let b : ℕ = bucket_of r in let s : Rank = letter_rank y in let t : Bool = rank_before s r in
         let mine : List (Letter P) = y ∷ filter (in_bucket (own y)) ys in let others : List (Letter P) = filter (not_in_bucket (own y)) ys in
-        let from : List (List (Letter P)) = from_first (begins_with (belongs r)) lists in
-        subst (λ l. first_holds b r (from_first (begins_with (belongs r)) (l ∷ lists)) ≡ holds_rank r (y ∷ ys)) (sym row.0) (
+        let from : List (List (Letter P)) = from_first (begins_with (own_or_not_before r)) lists in
+        subst (λ l. first_holds b r (from_first (begins_with (own_or_not_before r)) (l ∷ lists)) ≡ holds_rank r (y ∷ ys)) (sym listed.0) (
         elim (in_bucket b y) as (λ c. in_bucket b y ≡ c → first_holds b r (if c || not t then mine ∷ lists else from) ≡ holds_rank r (y ∷ ys)) [
           | true ↦ λ e.
               let all : mine ≡ filter (in_bucket b) (y ∷ ys) = ap (λ n. y ∷ filter (in_bucket n) ys) (same-number (own y) b e) ∙ sym (ap (λ c. if c then y ∷ filter (in_bucket b) ys else filter (in_bucket b) ys) e) in
@@ -106,7 +106,7 @@ module _ {P : Type 0} where
           | false ↦ λ e.
               elim t as (λ u. rank_before s r ≡ u → first_holds b r (if not u then mine ∷ lists else from) ≡ holds_rank r (y ∷ ys)) [
                 | true ↦ λ f.
-                    held-ahead lists others (rising-filter _ (not_in_bucket (own y)) ys rises.1) row.1
+                    held-ahead lists others (rising-filter _ (not_in_bucket (own y)) ys rises.1) listed.1
                     ∙ sym (holds-own r others) ∙ ap (holds_rank r) (filter-within (in_bucket b) (not_in_bucket (own y)) (apart b y e) ys) ∙ holds-own r ys
                     ∙ ap (λ c. c || holds_rank r ys) (sym (before-differs s r (rank_before-true s r f)))
                 | false ↦ λ f.

@@ -9,10 +9,10 @@ use Rattle.vt_key.specs.inside.Queues.{holds_rank, IsRising}
 use Rattle.vt_key.specs.declared.order.Rank.{Rank}
 use Rattle.vt_key.specs.declared.letter.Letter.{Letter}
 use Rattle.vt_key.proofs.OrderLemmas.{rank_same-true}
-use Rattle.vt_pending.specs.inside.Buckets.{bucket_of, in_bucket, not_in_bucket, list_at, without_list, insert_in, put_some, letters_of, IsRow, Buckets}
+use Rattle.vt_pending.specs.inside.Buckets.{bucket_of, in_bucket, not_in_bucket, list_at, without_list, insert_in, put_some, letters_of, AreLists, Buckets}
 use Rattle.vt_key.proofs.RisingLemmas.{IsRising-insert, IsRising-without}
 use Rattle.vt_pending.proofs.Filters.{find-filter, filter-insert, filter-insert-other, filter-without, filter-without-other}
-use Rattle.vt_pending.proofs.Rows.{own, in-own, same-number, number-same, row-list, row-insert, row-put, row-letters}
+use Rattle.vt_pending.proofs.Lists.{own, in-own, same-number, number-same, listed-list, listed-insert, listed-put, listed-letters}
 
 -- a list that can't be otherwise is empty
 pub empty-else : {X : Type 0} (xs : List X) → (xs ≢ [] → ⊥) → xs ≡ []
@@ -39,14 +39,14 @@ module _ {P : Type 0} where
     pub buckets : Buckets mask lists (letters_of lists)
     pub letters_are : letters_of lists ≡ letters
 
-  pub keeps : (mask : ℕ) (lists : List (List (Letter P))) (letters : List (Letter P)) → IsRising letters → IsRow lists letters → Marks mask letters → Keeps mask lists letters
-  keeps mask lists letters rises row marks =
-      let are = row-letters lists letters rises row in
+  pub keeps : (mask : ℕ) (lists : List (List (Letter P))) (letters : List (Letter P)) → IsRising letters → AreLists lists letters → Marks mask letters → Keeps mask lists letters
+  keeps mask lists letters rises listed marks =
+      let are = listed-letters lists letters rises listed in
       let kept : Buckets mask lists letters = record {
         rising = rises;
-        list = λ b within. row-list b lists letters row;
-        bit = λ b within. ((λ set e. (marks b within).0 set (sym (row-list b lists letters row) ∙ e)), (λ some. (marks b within).1 (λ e. some (row-list b lists letters row ∙ e))));
-        row = row;
+        list = λ b within. listed-list b lists letters listed;
+        bit = λ b within. ((λ set e. (marks b within).0 set (sym (listed-list b lists letters listed) ∙ e)), (λ some. (marks b within).1 (λ e. some (listed-list b lists letters listed ∙ e))));
+        listed = listed;
       } in
       record { buckets = subst (Buckets mask lists) (sym are) kept; letters_are = are }
 
@@ -58,11 +58,11 @@ module _ {P : Type 0} where
   own-not x = ap not (in-own x)
 
   -- one list changed, with its bit
-  pub changed : (mask new b : ℕ) (letters after : List (Letter P)) (lists : List (List (Letter P))) → Marks mask letters → IsRising after → IsRow lists after
+  pub changed : (mask new b : ℕ) (letters after : List (Letter P)) (lists : List (List (Letter P))) → Marks mask letters → IsRising after → AreLists lists after
       → (IsBitSet new b ↔ (filter (in_bucket b) after ≢ [])) → ((c : ℕ) → c ≢ b → IsBitSet new c ↔ IsBitSet mask c)
       → ((c : ℕ) → c ≢ b → filter (in_bucket c) after ≡ filter (in_bucket c) letters) → Keeps new lists after
-  changed mask new b letters after lists marks rises row bit bits same =
-      keeps new lists after rises row (λ c within.
+  changed mask new b letters after lists marks rises listed bit bits same =
+      keeps new lists after rises listed (λ c within.
       elim (nat_eq c b) as (λ t. nat_eq c b ≡ t → IsBitSet new c ↔ (filter (in_bucket c) after ≢ [])) [
         | true ↦ λ e. subst (λ n. IsBitSet new n ↔ (filter (in_bucket n) after ≢ [])) (sym (same-number c b e)) bit
         | false ↦ λ e.
@@ -78,12 +78,12 @@ module _ {P : Type 0} where
       elim (rank_before (letter_rank x) (letter_rank l)) as (λ b. (if b then x ∷ l ∷ ls else l ∷ insert_letter x ls) ≡ [] → ⊥) [ true ↦ λ f. omega (arith, ap length f) | false ↦ λ f. omega (arith, ap length f) ] e
 
   -- a letter came
-  pub inserted : (mask new : ℕ) (x : Letter P) (letters : List (Letter P)) (lists after : List (List (Letter P))) → Marks mask letters → IsRising letters → IsRow lists letters → holds_rank (letter_rank x) letters ≡ false
+  pub inserted : (mask new : ℕ) (x : Letter P) (letters : List (Letter P)) (lists after : List (List (Letter P))) → Marks mask letters → IsRising letters → AreLists lists letters → holds_rank (letter_rank x) letters ≡ false
       → after ≡ insert_in (own x) x lists → IsBitSet new (own x) → ((c : ℕ) → c ≢ own x → IsBitSet new c ↔ IsBitSet mask c) → Keeps new after (insert_letter x letters)
-  inserted mask new x letters lists after marks rises row none is bit bits =
+  inserted mask new x letters lists after marks rises listed none is bit bits =
       let there : filter (in_bucket (own x)) (insert_letter x letters) ≡ insert_letter x (filter (in_bucket (own x)) letters) = filter-insert (in_bucket (own x)) x letters (in-own x) rises in
       changed mask new (own x) letters (insert_letter x letters) after marks (IsRising-insert x letters none rises)
-      (subst (λ ls. IsRow ls (insert_letter x letters)) (sym is) (row-insert x lists letters rises none row))
+      (subst (λ ls. AreLists ls (insert_letter x letters)) (sym is) (listed-insert x lists letters rises none listed))
       ((λ set e. insert-full x (filter (in_bucket (own x)) letters) (sym there ∙ e)), (λ some. bit)) bits (λ c other. filter-insert-other (in_bucket c) x letters (not-own c x other))
 
   -- the first letter went
@@ -92,17 +92,17 @@ module _ {P : Type 0} where
     pub is : letters ≡ x ∷ others
     pub kept : Keeps mask lists others
 
-  pub first-left : (mask new : ℕ) (x : Letter P) (line : List (Letter P)) (letters : List (Letter P)) (rest lists : List (List (Letter P))) → Marks mask letters → IsRising letters → IsRow ((x ∷ line) ∷ rest) letters
+  pub first-left : (mask new : ℕ) (x : Letter P) (line : List (Letter P)) (letters : List (Letter P)) (rest lists : List (List (Letter P))) → Marks mask letters → IsRising letters → AreLists ((x ∷ line) ∷ rest) letters
       → lists ≡ put_some line rest → (IsBitSet new (own x) ↔ (line ≢ [])) → ((c : ℕ) → c ≢ own x → IsBitSet new c ↔ IsBitSet mask c) → Left x new lists letters
-  first-left mask new x line [] rest lists marks rises row put bit bits = absurd row
-  first-left mask new x line (y ∷ ys) rest lists marks rises row put bit bits =
-      let same : x ≡ y = ap (head_or x) row.0 in
-      let more : line ≡ filter (in_bucket (own y)) ys = ap (drop 1) row.0 in
+  first-left mask new x line [] rest lists marks rises listed put bit bits = absurd listed
+  first-left mask new x line (y ∷ ys) rest lists marks rises listed put bit bits =
+      let same : x ≡ y = ap (head_or x) listed.0 in
+      let more : line ≡ filter (in_bucket (own y)) ys = ap (drop 1) listed.0 in
       record {
         others = ys;
         is = ap (λ z. z ∷ ys) (sym same);
         kept =
-            changed mask new (own y) (y ∷ ys) ys lists marks rises.1 (subst (λ ls. IsRow ls ys) (sym (put ∙ ap (λ l. put_some l rest) more)) (row-put (own y) rest ys rises.1 row.1))
+            changed mask new (own y) (y ∷ ys) ys lists marks rises.1 (subst (λ ls. AreLists ls ys) (sym (put ∙ ap (λ l. put_some l rest) more)) (listed-put (own y) rest ys rises.1 listed.1))
             (subst (λ (z : Letter P). IsBitSet new (own z) ↔ (filter (in_bucket (own y)) ys ≢ [])) same (subst (λ (l : List (Letter P)). IsBitSet new (own x) ↔ (l ≢ [])) more bit))
             (λ c other. bits c (λ e. other (e ∙ ap own same)))
             (λ c other. ap (λ b. if b then y ∷ filter (in_bucket c) ys else filter (in_bucket c) ys) (sym (not-own c y other)));
@@ -110,14 +110,14 @@ module _ {P : Type 0} where
 
   -- the first letter that passes a test went
   pub passing-left : (mask new : ℕ) (test : Letter P → Bool) (x : Letter P) (letters line : List (Letter P)) (rest lists : List (List (Letter P))) → Marks mask letters → IsRising letters → find test letters ≡ Some x
-      → IsRow rest (filter (not_in_bucket (own x)) letters) → line ≡ without_first test (filter (in_bucket (own x)) letters) → lists ≡ put_some line rest → (IsBitSet new (own x) ↔ (line ≢ []))
+      → AreLists rest (filter (not_in_bucket (own x)) letters) → line ≡ without_first test (filter (in_bucket (own x)) letters) → lists ≡ put_some line rest → (IsBitSet new (own x) ↔ (line ≢ []))
       → ((c : ℕ) → c ≢ own x → IsBitSet new c ↔ IsBitSet mask c) → Keeps new lists (without_first test letters)
-  passing-left mask new test x letters line rest lists marks rises found row line_is put bit bits =
+  passing-left mask new test x letters line rest lists marks rises found listed line_is put bit bits =
       let there : line ≡ filter (in_bucket (own x)) (without_first test letters) = line_is ∙ sym (filter-without test (in_bucket (own x)) x letters found (in-own x)) in
       let after : List (Letter P) = without_first test letters in
       let rises_on : IsRising after = IsRising-without test letters rises in
-      let others : IsRow rest (filter (not_in_bucket (own x)) after) = subst (IsRow rest) (sym (filter-without-other test (not_in_bucket (own x)) x letters found (own-not x))) row in
-      changed mask new (own x) letters after lists marks rises_on (subst (λ ls. IsRow ls after) (sym (put ∙ ap (λ l. put_some l rest) there)) (row-put (own x) rest after rises_on others))
+      let others : AreLists rest (filter (not_in_bucket (own x)) after) = subst (AreLists rest) (sym (filter-without-other test (not_in_bucket (own x)) x letters found (own-not x))) listed in
+      changed mask new (own x) letters after lists marks rises_on (subst (λ ls. AreLists ls after) (sym (put ∙ ap (λ l. put_some l rest) there)) (listed-put (own x) rest after rises_on others))
       (subst (λ (l : List (Letter P)). IsBitSet new (own x) ↔ (l ≢ [])) there bit) bits (λ c other. filter-without-other test (in_bucket c) x letters found (not-own c x other))
 
   -- a rank can be in the list of its time alone
@@ -145,7 +145,7 @@ module _ {P : Type 0} where
         | false ↦ more
       ]
 
-  -- where list b is empty, the row is without it
+  -- where list b is empty, the lists are without it
   pub without-none : (b : ℕ) (lists : List (List (Letter P))) → list_at b lists ≡ [] → without_list b lists ≡ lists
   without-none b [] none = refl
   without-none b ([] ∷ lists) none = ap (λ ls. [] ∷ ls) (without-none b lists none)
@@ -156,10 +156,10 @@ module _ {P : Type 0} where
       ] none
 
   -- the list of the first letter is marked
-  pub first-marked : (mask : ℕ) (x : Letter P) (line letters : List (Letter P)) (rest : List (List (Letter P))) → Marks mask letters → IsRow ((x ∷ line) ∷ rest) letters → own x < 64 → IsBitSet mask (own x)
-  first-marked mask x line [] rest marks row within = absurd row
-  first-marked mask x line (y ∷ ys) rest marks row within =
-      let same : x ≡ y = ap (head_or x) row.0 in
+  pub first-marked : (mask : ℕ) (x : Letter P) (line letters : List (Letter P)) (rest : List (List (Letter P))) → Marks mask letters → AreLists ((x ∷ line) ∷ rest) letters → own x < 64 → IsBitSet mask (own x)
+  first-marked mask x line [] rest marks listed within = absurd listed
+  first-marked mask x line (y ∷ ys) rest marks listed within =
+      let same : x ≡ y = ap (head_or x) listed.0 in
       let here : in_bucket (own x) y ≡ true = ap (λ z. in_bucket (own x) z) (sym same) ∙ in-own x in
       (marks (own x) within).1 (λ e. omega (arith, ap length (sym (ap (λ c. if c then y ∷ filter (in_bucket (own x)) ys else filter (in_bucket (own x)) ys) here) ∙ e)))
 

@@ -4,6 +4,6 @@ pub mod Holding
 mod Inserting
 mod Kept
 pub mod Placing
-mod Rows
+mod Lists
 mod Searching
 mod Words

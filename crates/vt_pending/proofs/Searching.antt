@@ -10,10 +10,10 @@ use Rattle.vt_key.specs.declared.order.Rank.{Rank}
 use Rattle.vt_key.specs.declared.letter.Letter.{Letter}
 use Rattle.vt_key.proofs.ListLemmas.{every-filter, rising-filter}
 use Rattle.vt_key.proofs.OrderLemmas.{rank-total, rank-transitive, rank_before-true, before-rank_before}
-use Rattle.vt_pending.specs.inside.Buckets.{in_bucket, not_in_bucket, both_before, lesser, least_from, IsRow}
+use Rattle.vt_pending.specs.inside.Buckets.{in_bucket, not_in_bucket, both_before, lesser, least_from, AreLists}
 use Rattle.vt_pending.proofs.Placing.{not-back}
 use Rattle.vt_key.proofs.RisingLemmas.{AllAfter-before}
-use Rattle.vt_pending.proofs.Rows.{own, in-own}
+use Rattle.vt_pending.proofs.Lists.{own, in-own}
 
 -- a rank that isn't before a second one isn't before a third one that isn't after the second
 not-before : (a b c : Rank) → rank_before c b ≡ false → rank_before b a ≡ false → rank_before c a ≡ false
@@ -95,19 +95,19 @@ module _ {P : Type 0} (test : Letter P → Bool) where
       let h : RankBefore (letter_rank z) (letter_rank x) = rank_before-true (letter_rank z) (letter_rank x) before in
       lesser-first z (find test (x ∷ xs)) (found-after z (x ∷ xs) (h, AllAfter-before (letter_rank z) (letter_rank x) xs h rises.0))
 
-  pub row-find : (o : Option (Letter P)) (lists : List (List (Letter P))) (letters : List (Letter P)) → IsRising letters → IsRow lists letters → least_from test o lists ≡ lesser o (find test letters)
-  row-find o [] [] rises row = sym (lesser-none o)
-  row-find o [] (x ∷ xs) rises row = absurd row
-  row-find o (list ∷ lists) [] rises row = absurd row
-  row-find o (list ∷ lists) (x ∷ xs) rises row =
+  pub listed-find : (o : Option (Letter P)) (lists : List (List (Letter P))) (letters : List (Letter P)) → IsRising letters → AreLists lists letters → least_from test o lists ≡ lesser o (find test letters)
+  listed-find o [] [] rises listed = sym (lesser-none o)
+  listed-find o [] (x ∷ xs) rises listed = absurd listed
+  listed-find o (list ∷ lists) [] rises listed = absurd listed
+  listed-find o (list ∷ lists) (x ∷ xs) rises listed =
       let others : List (Letter P) = filter (not_in_bucket (own x)) xs in
-      let first : list ≡ filter (in_bucket (own x)) (x ∷ xs) = row.0 ∙ sym (ap (λ c. if c then x ∷ filter (in_bucket (own x)) xs else filter (in_bucket (own x)) xs) (in-own x)) in
+      let first : list ≡ filter (in_bucket (own x)) (x ∷ xs) = listed.0 ∙ sym (ap (λ c. if c then x ∷ filter (in_bucket (own x)) xs else filter (in_bucket (own x)) xs) (in-own x)) in
       let rest : others ≡ filter (not_in_bucket (own x)) (x ∷ xs) = sym (ap (λ c. if not c then x ∷ others else others) (in-own x)) in
       let all : lesser (find test list) (find test others) ≡ find test (x ∷ xs) = (λ i. lesser (find test (first i)) (find test (rest i))) ∙ find-parts (own x) (x ∷ xs) rises in
       let on : least_from test (lesser o (find test list)) lists ≡ lesser o (find test (x ∷ xs)) =
-      row-find (lesser o (find test list)) lists others (rising-filter _ (not_in_bucket (own x)) xs rises.1) row.1
+      listed-find (lesser o (find test list)) lists others (rising-filter _ (not_in_bucket (own x)) xs rises.1) listed.1
       ∙ lesser-both o (find test list) (find test others) ∙ ap (lesser o) all in
-      ap (λ l. if both_before o (slice_get l 0) then o else least_from test (lesser o (find test list)) lists) row.0
+      ap (λ l. if both_before o (slice_get l 0) then o else least_from test (lesser o (find test list)) lists) listed.0
       ∙ elim (both_before o (Some x)) as (λ t. both_before o (Some x) ≡ t → (if t then o else least_from test (lesser o (find test list)) lists) ≡ lesser o (find test (x ∷ xs))) [
         | true ↦ λ e. sym (found-before o x xs e rises)
         | false ↦ λ e. on

@@ -1,4 +1,4 @@
-//! Lists of letters in a row: the 64 buckets by time.
+//! Lists of letters: the 64 buckets by time.
 
 ghost use Rattle.std.specs.Prelude.{◌≡◌, ◌≢◌, ℕ, ◌<◌, ◌↔◌, [], None, false, true, find, nat_eq, IfErr, IfOk, IsBitSet};
 ghost use Rattle.std.specs.Option.{option_copied};
@@ -6,7 +6,7 @@ ghost use Rattle.vt_key.specs.promise.Order.{rank_before};
 ghost use Rattle.vt_key.specs.promise.Queues.{insert_letter};
 ghost use Rattle.vt_key.specs.inside.Queues.{holds_rank, IsRising};
 ghost use Rattle.vt_pending.specs.inside.Letters.{some_has_rank, reached_has};
-ghost use Rattle.vt_pending.specs.inside.Buckets.{bucket_of, some_in_bucket, both_before, lesser, least_from, list_at, without_list, first_holds, insert_here, insert_in, put_list, put_some, letters_of, IsRow};
+ghost use Rattle.vt_pending.specs.inside.Buckets.{bucket_of, some_in_bucket, both_before, lesser, least_from, list_at, without_list, first_holds, insert_here, insert_in, put_list, put_some, letters_of, AreLists};
 
 use crate::mask::Mask;
 use std::alloc::Global;
@@ -51,7 +51,7 @@ fn is_before<P: Copy>(letter: Option<&Letter<P>>, other: Option<&Letter<P>>) -> 
     }
 }
 
-/// Takes list `number` out of the row. If it isn't there, the result is empty.
+/// Takes list `number` out. If it isn't there, the result is empty.
 pub(crate) fn take_list<P: Copy>(
     lists: &mut Lines<Letter<P>>,
     number: u32,
@@ -71,7 +71,7 @@ pub(crate) fn take_list<P: Copy>(
     found
 }
 
-/// Puts a list, which isn't empty, into the row: behind the lists whose first letters are before its first one.
+/// Puts a list, which isn't empty, among the others: behind the lists whose first letters are before its first one.
 pub(crate) fn put_list<P: Copy>(lists: &mut Lines<Letter<P>>, list: Line<Letter<P>>)
     requires { list ≢ [] }
     ensures { lists.new ≡ put_list list lists.old }
@@ -84,8 +84,7 @@ pub(crate) fn put_list<P: Copy>(lists: &mut Lines<Letter<P>>, list: Line<Letter<
     lists.join(passed);
 }
 
-/// Takes list `number` out of the row. If the mask says that it isn't there, the result is empty, and no list is
-/// read.
+/// Takes list `number` out. If the mask says that it isn't there, the result is empty, and no list is read.
 pub(crate) fn take_marked<P: Copy>(
     mask: Mask,
     lists: &mut Lines<Letter<P>>,
@@ -105,7 +104,7 @@ pub(crate) fn take_marked<P: Copy>(
 
 /// Puts a letter into its list, `number`, and that list behind those whose first letters are before its first one.
 ///
-/// An error means that a letter of its rank is there. It hands the letter back, and the row is unchanged.
+/// An error means that a letter of its rank is there. It hands the letter back, and the lists are unchanged.
 pub(crate) fn insert_in<P: Copy>(
     mask: Mask,
     lists: &mut Lines<Letter<P>>,
@@ -116,13 +115,13 @@ pub(crate) fn insert_in<P: Copy>(
     requires own { number ≡ bucket_of letter.event.rank }
     requires within { number < 64 }
     requires marked { (IsBitSet mask.bits number → ⊥) → list_at number lists.old ≡ [] }
-    requires row { IsRow lists.old (letters_of lists.old) × IsRising (letters_of lists.old) }
+    requires listed { AreLists lists.old (letters_of lists.old) × IsRising (letters_of lists.old) }
     ensures put { IfOk result (λ _. lists.new ≡ insert_in number letter lists.old) }
     ensures new { IfOk result (λ _. holds_rank letter.event.rank (letters_of lists.old) ≡ false) }
     ensures held { IfErr result (λ _. holds_rank letter.event.rank (letters_of lists.old) ≡ true) }
     ensures unchanged { IfErr result (λ back. (back ≡ letter) × (lists.new ≡ lists.old)) }
 {
-    let passed = lists.pass(&Belongs(letter.get().event.rank));
+    let passed = lists.pass(&OwnOrNotBefore(letter.get().event.rank));
     let put = insert_here(mask, lists, number, letter, alloc);
     lists.join(passed);
     put
@@ -131,7 +130,8 @@ pub(crate) fn insert_in<P: Copy>(
 /// Puts a letter into list `number` if that is the first one. Else it becomes the first letter of that list, which then
 /// is the first one.
 ///
-/// An error means that a letter of its rank is in the first list. It hands the letter back, and the row is unchanged.
+/// An error means that a letter of its rank is in the first list. It hands the letter back, and the lists are
+/// unchanged.
 fn insert_here<P: Copy>(
     mask: Mask,
     lists: &mut Lines<Letter<P>>,
@@ -172,9 +172,9 @@ fn put_new<P: Copy>(
     ensures held { IfErr result (λ _. reached_has letter.event.rank list.old ≡ true) }
     ensures unchanged { IfErr result (λ back. (back ≡ letter) × (list.new ≡ list.old)) }
 {
-    let limit = NotBefore(letter.get().event.rank);
-    let passed = list.pass(&limit);
-    if has_rank(list.front(), limit.0) {
+    let not_before = NotBefore(letter.get().event.rank);
+    let passed = list.pass(&not_before);
+    if has_rank(list.front(), not_before.0) {
         list.join(passed);
         return Err(letter);
     }
@@ -186,12 +186,12 @@ fn put_new<P: Copy>(
 /// Lets a letter pass that belongs in the list of this rank, or isn't before this rank. Letters of other lists have
 /// other ticks, so the ticks alone tell their order.
 #[derive(Drop)]
-struct Belongs(Rank);
+struct OwnOrNotBefore(Rank);
 
-impl<P> Predicate<Letter<P>> for Belongs {
-    ghost use Rattle.vt_pending.specs.inside.Buckets.{belongs};
+impl<P> Predicate<Letter<P>> for OwnOrNotBefore {
+    ghost use Rattle.vt_pending.specs.inside.Buckets.{own_or_not_before};
 
-    ghost passes = { λ t letter. belongs t.0 letter };
+    ghost passes = { λ t letter. own_or_not_before t.0 letter };
 
     fn test(&self, letter: &Letter<P>) -> bool {
         bucket(letter.event.rank) == bucket(self.0) || !is_earlier(&letter.event.rank, &self.0)

@@ -19,8 +19,8 @@ use vt_list::{Lines, Parcel, Predicate};
 
 /// A queue of letters in strictly rising rank. Contracts see the list of them.
 ///
-/// The letters lie in 64 lists, by their ticks modulo 64, each in rising rank. The lists that aren't empty stand in a
-/// row, in the order of their first letters. So the least letter of all is the first one of the first list.
+/// The letters lie in 64 lists, by their ticks modulo 64, each in rising rank. The lists that aren't empty stand in
+/// the order of their first letters. So the least letter of all is the first one of the first list.
 ///
 /// No call takes memory.
 #[derive(Drop)]

@@ -95,7 +95,7 @@ pub(crate) fn fault_of(unsettled: Unsettled) -> Fault
 
 /// A whole program of one model: does what the words ask for, and returns the exit status. The first word is the program's
 /// name, `own` are the model's options, each with a default in its range, and `make` makes the model of their values. It has to work
-/// for all values in their ranges, as many as `own` has rows.
+/// for all values in their ranges, as many as `own` has lines.
 ///
 /// The words are those of `./twarp`, with the model's options in the place of its models': `run`, `replay` or help, with
 /// `--workers`, `--lps`, `--end`, `--seed`, `--text` and the model's options, `--synch`, `--turns`, `--finals` and `--records` for `run`

@@ -33,32 +33,32 @@ fn put_number(n: u64, text: &mut [u8], end: usize) -> usize
 }
 
 /// Puts what ends the line of a record, which is its process, kind and value, at the end, and answers where it begins.
-fn put_tail(row: &Record, text: &mut [u8; RECORD_LEN]) -> usize
+fn put_tail(item: &Record, text: &mut [u8; RECORD_LEN]) -> usize
     ensures within { result ≤ RECORD_LEN }
     ensures short { RECORD_LEN ≤ result + 3 * NUMBER_LEN + 3 }
-    ensures written { drop result text.new ≡ tail_text row.now }
+    ensures written { drop result text.new ≡ tail_text item.now }
 {
     text[RECORD_LEN - 1] = b'\n';
-    let value = put_number(row.value, text, RECORD_LEN - 1);
+    let value = put_number(item.value, text, RECORD_LEN - 1);
     text[value - 1] = b' ';
-    let kind = put_number(u64::from(row.kind), text, value - 1);
+    let kind = put_number(u64::from(item.kind), text, value - 1);
     text[kind - 1] = b' ';
-    put_number(u64::from(row.lp), text, kind - 1)
+    put_number(u64::from(item.lp), text, kind - 1)
 }
 
 /// Puts the line of a record at the end, and answers where it begins.
-fn put_record(row: &Record, version: Version, text: &mut [u8; RECORD_LEN]) -> usize
+fn put_record(item: &Record, version: Version, text: &mut [u8; RECORD_LEN]) -> usize
     ensures within { result ≤ RECORD_LEN }
-    ensures written { drop result text.new ≡ record_text version row.now }
+    ensures written { drop result text.new ≡ record_text version item.now }
 {
-    let tail = put_tail(row, text);
+    let tail = put_tail(item, text);
     text[tail - 1] = b' ';
     match version {
-        Version::One => put_number(row.time, text, tail - 1),
+        Version::One => put_number(item.time, text, tail - 1),
         Version::Two => {
-            let priority = put_number(u64::from(row.priority), text, tail - 1);
+            let priority = put_number(u64::from(item.priority), text, tail - 1);
             text[priority - 1] = b' ';
-            put_number(row.time, text, priority - 1)
+            put_number(item.time, text, priority - 1)
         }
     }
 }
@@ -134,13 +134,13 @@ impl TextBuffer {
     }
 
     /// Adds the line of a record in a version of the text. There must be room for [`RECORD_LEN`] bytes.
-    pub fn push_record(&mut self, row: &Record, version: Version)
+    pub fn push_record(&mut self, item: &Record, version: Version)
         requires room { length self.old + RECORD_LEN ≤ TEXT_ROOM }
-        ensures text { self.new ≡ self.old ++ record_text version row.now }
+        ensures text { self.new ≡ self.old ++ record_text version item.now }
         ensures len { length self.new ≤ length self.old + RECORD_LEN }
     {
         let mut line = [0; RECORD_LEN];
-        let start = put_record(row, version, &mut line);
+        let start = put_record(item, version, &mut line);
         self.push_bytes(&line[start..]);
     }
 

@@ -25,9 +25,9 @@ pub fn put_lines<W: Write>(
     ensures err { OnErr result (AppendsIntoHeld (W.contents writer.old) (W.contents writer.new) text.new (text.old ++ record_lines version records.now)) }
     ensures fault { IfErr result (λ fault. fault ≡ Fault.Output) }
 {
-    for row in records {
+    for item in records {
         text.make_room(writer, RECORD_LEN)?;
-        text.push_record(row, version);
+        text.push_record(item, version);
     }
     Ok(())
 }

@@ -24,13 +24,13 @@ blocks_lent R [] = nothing
 blocks_lent R (b ∷ bs) = beside (lent_at R b.0 b.1) (blocks_lent R bs)
 
 -- where the blocks lie
-abbrev pub places : {X : Type 0} → List (Ptr × X) → List Ptr
-places = map (λ b. b.0)
+abbrev pub addresses : {X : Type 0} → List (Ptr × X) → List Ptr
+addresses = map (λ b. b.0)
 
 -- what lies in them
 abbrev pub contents : {X : Type 0} → List (Ptr × X) → List X
 contents = map (λ b. b.1)
 
 -- where the block of that index lies
-abbrev pub place_at : {X : Type 0} → List (Ptr × X) → ℕ → Ptr
-place_at bs index = slice_index_or (places bs) index null_ptr
+abbrev pub address_at : {X : Type 0} → List (Ptr × X) → ℕ → Ptr
+address_at bs index = slice_index_or (addresses bs) index null_ptr

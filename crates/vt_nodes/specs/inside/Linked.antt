@@ -56,7 +56,7 @@ module _ {X : Type 0} where
     pub back : LeadBack None bs
 
   -- the nodes are a chain, and a position among them is after `last` and before `next`
-  pub record IsPlace (head tail last next : Option Ptr) (passed ahead : List (NodeAt X)) : Type 0 where
+  pub record IsAddress (head tail last next : Option Ptr) (passed ahead : List (NodeAt X)) : Type 0 where
     pub chain : IsChain head tail (passed ++ ahead)
     pub last_is : last ≡ last_or None passed
     pub next_is : next ≡ first_or None ahead

@@ -26,12 +26,12 @@ module _ {P : Type 0} where
   some_in_bucket b None = false
   some_in_bucket b (Some letter) = in_bucket b letter
 
-  -- list b of a row of lists: the one whose first letter belongs there, or none
+  -- list b of some lists: the one whose first letter belongs there, or none
   abbrev pub list_at : ℕ → List (List (Letter P)) → List (Letter P)
   list_at b [] = []
   list_at b (list ∷ lists) = if some_in_bucket b (slice_get list 0) then list else list_at b lists
 
-  -- the row without list b
+  -- the lists without list b
   abbrev pub without_list : ℕ → List (List (Letter P)) → List (List (Letter P))
   without_list b [] = []
   without_list b (list ∷ lists) = if some_in_bucket b (slice_get list 0) then lists else list ∷ without_list b lists
@@ -48,27 +48,27 @@ module _ {P : Type 0} where
   lesser (Some letter) None = Some letter
   lesser (Some letter) (Some other) = if rank_before (letter_rank other) (letter_rank letter) then Some other else Some letter
 
-  -- the letter of lesser rank: the one found so far, or the least in a row of lists that passes a test. The search ends at
+  -- the letter of lesser rank: the one found so far, or the least in some lists that passes a test. The search ends at
   -- the first list that begins behind what is found
   abbrev pub least_from : (Letter P → Bool) → Option (Letter P) → List (List (Letter P)) → Option (Letter P)
   least_from test found [] = found
   least_from test found (list ∷ lists) = if both_before found (slice_get list 0) then found else least_from test (lesser found (find test list)) lists
 
   -- the letter belongs in the list of this rank, or isn't before this rank
-  abbrev pub belongs : Rank → Letter P → Bool
-  belongs rank letter = in_bucket (bucket_of rank) letter || not (rank_before letter.event.rank rank)
+  abbrev pub own_or_not_before : Rank → Letter P → Bool
+  own_or_not_before rank letter = in_bucket (bucket_of rank) letter || not (rank_before letter.event.rank rank)
 
   -- the first list is list b, and its first letter that isn't before the rank has it
   abbrev pub first_holds : ℕ → Rank → List (List (Letter P)) → Bool
   first_holds b rank [] = false
   first_holds b rank (list ∷ lists) = if some_in_bucket b (slice_get list 0) then reached_has rank list else false
 
-  -- the row with one letter more in list b, which then is the first one. If it wasn't, the letter is the first of its list
+  -- the lists with one letter more in list b, which then is the first one. If it wasn't, the letter is the first of its list
   abbrev pub insert_here : ℕ → Letter P → List (List (Letter P)) → List (List (Letter P))
   insert_here b letter [] = (letter ∷ []) ∷ []
   insert_here b letter (list ∷ lists) = if some_in_bucket b (slice_get list 0) then insert_letter letter list ∷ lists else (letter ∷ list_at b lists) ∷ list ∷ without_list b lists
 
-  -- the row with one letter more in list b, which then stands behind the lists whose first letters are before its first one
+  -- the lists with one letter more in list b, which then stands behind the lists whose first letters are before its first one
   abbrev pub insert_in : ℕ → Letter P → List (List (Letter P)) → List (List (Letter P))
   insert_in b letter [] = (letter ∷ []) ∷ []
   insert_in b letter (list ∷ lists) =
@@ -76,17 +76,17 @@ module _ {P : Type 0} where
       else if both_before (slice_get list 0) (Some letter) then list ∷ insert_in b letter lists
       else (letter ∷ list_at b lists) ∷ list ∷ without_list b lists
 
-  -- the row with one list more, behind those whose first letters are before its first one
+  -- the lists with one more, behind those whose first letters are before its first one
   abbrev pub put_list : List (Letter P) → List (List (Letter P)) → List (List (Letter P))
   put_list list [] = list ∷ []
   put_list list (other ∷ lists) = if both_before (slice_get other 0) (slice_get list 0) then other ∷ put_list list lists else list ∷ other ∷ lists
 
-  -- the row with one list more, unless that list is empty
+  -- the lists with one more, unless that one is empty
   abbrev pub put_some : List (Letter P) → List (List (Letter P)) → List (List (Letter P))
   put_some [] lists = lists
   put_some (letter ∷ letters) lists = put_list (letter ∷ letters) lists
 
-  -- the letters of a row in rising rank
+  -- the letters of the lists in rising rank
   abbrev pub merged : List (Letter P) → List (Letter P) → List (Letter P)
   merged [] others = others
   merged (letter ∷ letters) others = insert_letter letter (merged letters others)
@@ -96,13 +96,13 @@ module _ {P : Type 0} where
   letters_of (list ∷ lists) = merged list (letters_of lists)
 
   -- the lists of letters that aren't empty stand in the order of their first letters
-  abbrev pub IsRow : List (List (Letter P)) → List (Letter P) → Type 0
-  IsRow [] [] = Unit {0}
-  IsRow [] (letter ∷ letters) = ⊥
-  IsRow (list ∷ lists) [] = ⊥
-  IsRow (list ∷ lists) (letter ∷ letters) =
+  abbrev pub AreLists : List (List (Letter P)) → List (Letter P) → Type 0
+  AreLists [] [] = Unit {0}
+  AreLists [] (letter ∷ letters) = ⊥
+  AreLists (list ∷ lists) [] = ⊥
+  AreLists (list ∷ lists) (letter ∷ letters) =
       let b = bucket_of (letter_rank letter) in
-      (list ≡ letter ∷ filter (in_bucket b) letters) × IsRow lists (filter (not_in_bucket b) letters)
+      (list ≡ letter ∷ filter (in_bucket b) letters) × AreLists lists (filter (not_in_bucket b) letters)
 
   -- a queue with these letters: list b has those with tick b modulo 64 in rising rank, and bit b of the word says that it isn't
   -- empty
@@ -110,4 +110,4 @@ module _ {P : Type 0} where
     pub rising : IsRising letters
     pub list : (b : ℕ) → b < 64 → list_at b lists ≡ filter (in_bucket b) letters
     pub bit : (b : ℕ) → b < 64 → IsBitSet mask b ↔ (list_at b lists ≢ [])
-    pub row : IsRow lists letters
+    pub listed : AreLists lists letters

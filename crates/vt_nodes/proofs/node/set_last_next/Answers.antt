@@ -1,5 +1,5 @@
 use Rattle.std.proofs.Common.{◌++◌, map, sym, ap, ◌∙◌}
-use Rattle.vt_nodes.specs.inside.Blocks.{places}
+use Rattle.vt_nodes.specs.inside.Blocks.{addresses}
 use Rattle.vt_nodes.specs.inside.Linked.{NodeAt, with_next}
 use Rattle.vt_nodes.proofs.Links.{last-of, take-last, drop-last, with_next-snoc}
 use Rattle.vt_nodes.proofs.node.set_last_next.Goals as goal
@@ -7,7 +7,7 @@ use Rattle.vt_nodes.proofs.node.set_last_next.Goals as goal
 pub set_next-requires : goal.set_next-requires
 set_next-requires g c =
     let l = last-of c.args.last c.args.nodes.owned c.requires in
-    ap places (c.split-front.ensures.1 ∙ drop-last c.args.last c.args.nodes.owned l)
+    ap addresses (c.split-front.ensures.1 ∙ drop-last c.args.last c.args.nodes.owned l)
 
 pub returns : goal.returns
 returns g c =

@@ -21,7 +21,7 @@ use denote.Struct.Struct.{within}
 use Rattle.core.proofs.alloc.Shapes.{after}
 use Rattle.std.specs.Prelude.{map}
 use Rattle.std_alloc.specs.Box.Ownership.{box_owns}
-use Rattle.vt_nodes.specs.inside.Blocks.{may_free, blocks_owned, places}
+use Rattle.vt_nodes.specs.inside.Blocks.{may_free, blocks_owned, addresses}
 use Rattle.vt_nodes.specs.contracts.blocks.Blocks as blocks
 use Rattle.vt_nodes.specs.contracts.link.Link.{the_row as Link}
 use Rattle.vt_nodes.specs.contracts.node.Node as node
@@ -53,7 +53,7 @@ set_links_spec 𝓤 𝓛 𝓜 𝓡 wired X laws =
     let u = one (layout Row) y.0.4.0 (typed_blocks a y.0.4.0 are.0) in
     let m = one (layout Link) y.0.4.1.1.0 (typed_link next y.0.4.1.1.0 are.1.1.0) in
     let k = one (layout Link) y.0.4.1.1.1.0 (typed_link prev y.0.4.1.1.1.0 are.1.1.1.0) in
-    let Asked : Type 0 = places a.owned ≡ p ∷ [] in
+    let Asked : Type 0 = addresses a.owned ≡ p ∷ [] in
     qed 𝓛 (((‵ (flft κ qs.0) ⊛ ‵ ftrue) ⊛ ‵ (owns (types_at T.signature.params κs) y.0.3 y.0.4)) ∷ raw (fact 𝓤 (κ ⊑ X.lives)) ∷ raw (fact 𝓤 Asked) ∷ []) ∵
     move ! (2 ∷ []) $ heard ! Asked (λ asked. let is = only-block p a.owned asked in let x : NR.Denot = is.0 in
     split ! $ move ! (1 ∷ []) $ fsplit ! $ fsplit ! $ move ! (2 ∷ []) $ fsplit3 ! $ feq_l ! (λ f.

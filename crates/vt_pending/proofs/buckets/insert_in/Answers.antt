@@ -2,7 +2,7 @@ use Rattle.std.proofs.Common.{◌≡◌, ◌++◌, Result, Ok, Err, IfOk, IfErr,
 use Rattle.vt_key.specs.promise.Queues.{letter_rank}
 use Rattle.vt_key.specs.inside.Queues.{holds_rank}
 use Rattle.vt_pending.specs.inside.Buckets.{list_at, first_holds, insert_here, insert_in, letters_of}
-use Rattle.vt_pending.proofs.Rows.{own}
+use Rattle.vt_pending.proofs.Lists.{own}
 use Rattle.vt_pending.proofs.Inserting.{insert-parted, list-ahead, held-ahead}
 use Rattle.vt_pending.proofs.buckets.insert_in.Given.{Over}
 use Rattle.vt_pending.proofs.buckets.insert_in.Goals.{After-pass-passed}
@@ -36,7 +36,7 @@ held g c =
     let lists = c.args.lists.now in let y = c.get.result.now in
     let own_is : c.args.number ≡ own y = c.requires.own ∙ ap own (sym c.get.ensures) in
     (λ i. first_holds (own_is i) (letter_rank (sym c.get.ensures i)) (c.pass-passed.ensures.others i))
-    ∙ held-ahead (letter_rank y) lists (letters_of lists) c.requires.row.1 c.requires.row.0 ∙ ap (λ z. holds_rank (letter_rank z) (letters_of lists)) c.get.ensures
+    ∙ held-ahead (letter_rank y) lists (letters_of lists) c.requires.listed.1 c.requires.listed.0 ∙ ap (λ z. holds_rank (letter_rank z) (letters_of lists)) c.get.ensures
 
 pub returns-clause-new : goal.returns-clause-new
 returns-clause-new g c = if_ok c.insert_here-put.result (λ e. sym (held g (goal.at.returns-clause-new g c).After-pass-passed) ∙ e) c.insert_here-put.ensures.new

@@ -6,9 +6,9 @@ pub returns-in_err-make_room-clause-err : goal.returns-in_err-make_room-clause-e
 returns-in_err-make_room-clause-err g c =
     let a = c.args in
     let e = c.in_err-make_room.ensures in
-    on_err c.from_residual.result (records_stop a.version a.text.now a.records.now c.loop-row.row-index _ _ _ _ _ e.kept c.loop-row.invariant e.err)
+    on_err c.from_residual.result (records_stop a.version a.text.now a.records.now c.loop-item.item-index _ _ _ _ _ e.kept c.loop-item.invariant e.err)
 
-pub loop-row-preserved : goal.loop-row-preserved
-loop-row-preserved g c =
+pub loop-item-preserved : goal.loop-item-preserved
+loop-item-preserved g c =
     rw c.push_record.ensures.text
-    (record_put c.args.version c.args.text.now c.args.records.now c.loop-row.row-index _ _ _ _ _ _ c.loop-row-test.true c.loop-row.invariant c.in_ok-make_room.ensures.ok)
+    (record_put c.args.version c.args.text.now c.args.records.now c.loop-item.item-index _ _ _ _ _ _ c.loop-item-test.true c.loop-item.invariant c.in_ok-make_room.ensures.ok)

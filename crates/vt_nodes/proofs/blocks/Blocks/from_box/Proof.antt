@@ -24,7 +24,7 @@ use Rattle.std_alloc.proofs.boxed.Box.into_raw.Met.{met}
 use Rattle.std_heap.specs.contracts.GlobalAllocator.TheImpl.{ghosts, dict as methods}
 use Rattle.std_heap.proofs.GlobalAllocator.TheImpl.Met.{passed}
 use Rattle.vt_nodes.specs.inside.Blocks.{may_free}
-use Rattle.vt_nodes.specs.inside.Place.{IsSomewhere}
+use Rattle.vt_nodes.specs.inside.Address.{IsSomewhere}
 use Rattle.vt_nodes.specs.contracts.blocks.Blocks as blocks
 use Rattle.vt_nodes.specs.contracts.blocks.Blocks.from_box as this
 use Rattle.vt_nodes.proofs.Boxes.{Handle, handle_laws, handle_drop, Content, content_laws, Boxed, box_laws}

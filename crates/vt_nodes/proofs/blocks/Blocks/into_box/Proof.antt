@@ -25,7 +25,7 @@ use Rattle.std_heap.specs.contracts.Global as heap
 use Rattle.std_heap.proofs.Global.TheLaws as heap_laws
 use Rattle.std_heap.specs.contracts.GlobalAllocator.TheImpl.{ghosts, dict as methods}
 use Rattle.std_heap.proofs.GlobalAllocator.TheImpl.Met.{passed}
-use Rattle.vt_nodes.specs.inside.Blocks.{may_free, blocks_owned, places, contents}
+use Rattle.vt_nodes.specs.inside.Blocks.{may_free, blocks_owned, addresses, contents}
 use Rattle.vt_nodes.specs.contracts.blocks.Blocks as blocks
 use Rattle.vt_nodes.specs.contracts.blocks.Blocks.into_box as this
 use Rattle.vt_nodes.proofs.Boxes.{Handle, handle_laws, handle_drop, Content, content_laws, Boxed, box_laws}
@@ -55,7 +55,7 @@ into_box_spec {M = M} 𝓤 𝓛 𝓜 𝓡 wired N laws =
     let κs = y.0.0 in let qs = y.0.1 in let κ : Lft = κs.0 in let a = y.0.3.0 in let p : Ptr = y.0.3.1.0 in let h = y.0.3.1.1.0 in
     let Post : Val → SProp 𝓤 = (walk_of 𝓛 T stays c).post y in let Run : List Val → SProp 𝓤 = λ vs. WpFn 𝓤 𝓛.H 𝓣.C 𝓣.Λ fn vs Post in
     let u = one (layout Row) y.0.4.0 (typed_blocks a y.0.4.0 are.0) in let w = one (layout G) y.0.4.1.1.0 (typed_handle h y.0.4.1.1.0 are.1.1.0) in
-    let Asked : Type 0 = places a.owned ≡ p ∷ [] in
+    let Asked : Type 0 = addresses a.owned ≡ p ∷ [] in
     qed 𝓛 (((‵ (flft κ qs.0) ⊛ ‵ ftrue) ⊛ ‵ (owns (types_at T.signature.params κs) y.0.3 y.0.4)) ∷ raw (fact 𝓤 (κ ⊑ N.lives)) ∷ raw (fact 𝓤 Asked) ∷ []) ∵
     move ! (1 ∷ []) $ heard ! (κ ⊑ N.lives) (λ within. move ! (1 ∷ []) $ heard ! Asked (λ asked. let is = only-block p a.owned asked in let x : R.Denot = is.0 in
     split ! $ split ! $ move ! (2 ∷ []) $ fsplit ! $ fsplit ! $ move ! (2 ∷ []) $ fsplit3 ! $ feq_l ! (λ f.

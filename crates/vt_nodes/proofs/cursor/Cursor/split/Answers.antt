@@ -5,28 +5,28 @@ use Rattle.vt_nodes.proofs.cursor.Cursor.split.Goals as goal
 
 pub end-requires : goal.end-requires
 end-requires g c =
-    let s = c.self.inside in (all-ahead s.head s.tail s.last s.next s.passed.owned s.ahead.owned (sym c.place.ensures ∙ c.in_default.is) c.self.invariant).0
+    let s = c.self.inside in (all-ahead s.head s.tail s.last s.next s.passed.owned s.ahead.owned (sym c.address.ensures ∙ c.in_default.is) c.self.invariant).0
 
 pub returns-in_default : goal.returns-in_default
 returns-in_default g c =
-    let s = c.self.inside in let none = all-ahead s.head s.tail s.last s.next s.passed.owned s.ahead.owned (sym c.place.ensures ∙ c.in_default.is) c.self.invariant in
+    let s = c.self.inside in let none = all-ahead s.head s.tail s.last s.next s.passed.owned s.ahead.owned (sym c.address.ensures ∙ c.in_default.is) c.self.invariant in
     (c.new.ensures ∙ sym (ap items none.0) ∙ ap (λ v. v.0) c.self.view_is, ap (λ v. v.1) c.self.view_is)
 
 pub invariant_of-back : goal.invariant_of-back
 invariant_of-back g c =
-    let s = c.self.inside in (all-ahead s.head s.tail s.last s.next s.passed.owned s.ahead.owned (sym c.place.ensures ∙ c.in_default.is) c.self.invariant).1
+    let s = c.self.inside in (all-ahead s.head s.tail s.last s.next s.passed.owned s.ahead.owned (sym c.address.ensures ∙ c.in_default.is) c.self.invariant).1
 
 pub invariant_of-front-2 : goal.invariant_of-front-2
 invariant_of-front-2 g c =
     let s = c.self.inside in
     subst (IsChain s.head s.last) (sym (c.set_last_next.ensures ∙ ap (λ z. with_next z s.passed.owned) c.none.ensures))
-    (front-chain s.head s.tail s.last s.next c.in-Some.end s.passed.owned s.ahead.owned (sym c.place.ensures ∙ c.in-Some.is) c.self.invariant)
+    (front-chain s.head s.tail s.last s.next c.in-Some.end s.passed.owned s.ahead.owned (sym c.address.ensures ∙ c.in-Some.is) c.self.invariant)
 
 pub invariant_of-back-2 : goal.invariant_of-back-2
 invariant_of-back-2 g c =
     let s = c.self.inside in
     subst (IsChain s.next s.tail) (sym (c.set_first_prev.ensures ∙ ap (λ z. with_prev z s.ahead.owned) c.none-2.ensures))
-    (back-chain s.head s.tail s.last s.next c.in-Some-place.start s.passed.owned s.ahead.owned (sym c.place-2.ensures ∙ c.in-Some-place.is) c.self.invariant)
+    (back-chain s.head s.tail s.last s.next c.in-Some-address.start s.passed.owned s.ahead.owned (sym c.address-2.ensures ∙ c.in-Some-address.is) c.self.invariant)
 
 pub returns : goal.returns
 returns g c =

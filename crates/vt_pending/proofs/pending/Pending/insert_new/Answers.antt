@@ -2,7 +2,7 @@ use Rattle.std.proofs.Common.{ℕ, ◌≡◌, ◌≢◌, ◌↔◌, ◌^◌, ari
 use Rattle.std.specs.Prelude.{IsBitSet}
 use Rattle.vt_key.specs.promise.Queues.{insert_letter}
 use Rattle.vt_pending.specs.inside.Buckets.{list_at, insert_in, letters_of}
-use Rattle.vt_pending.proofs.Rows.{own}
+use Rattle.vt_pending.proofs.Lists.{own}
 use Rattle.vt_pending.proofs.Words.{set-bit, set-other-bit}
 use Rattle.vt_pending.proofs.Kept.{Keeps, empty-else, marks-of, inserted, length-insert}
 use Rattle.vt_pending.proofs.pending.Pending.insert_new.Given.{Over}
@@ -17,7 +17,7 @@ stays g c =
     let word = ap (λ k. bit_or s.mask.bits (2 ^ k)) (sym own_is) ∙ sym new.ensures in
     let bit = subst (λ n. IsBitSet n (own x)) word (set-bit s.mask.bits (own x)) in
     let bits = subst (λ n. (i : ℕ) → i ≢ own x → IsBitSet n i ↔ IsBitSet s.mask.bits i) word (set-other-bit s.mask.bits (own x)) in
-    inserted s.mask.bits new.result.bits x all s.lists c.insert_in.new.lists (marks-of s.mask.bits s.lists all kept) kept.rising kept.row c.in_default.ensures.new is bit bits
+    inserted s.mask.bits new.result.bits x all s.lists c.insert_in.new.lists (marks-of s.mask.bits s.lists all kept) kept.rising kept.listed c.in_default.ensures.new is bit bits
 
 pub invariant_of-self-2 : goal.invariant_of-self-2
 invariant_of-self-2 g c =

@@ -1,10 +1,10 @@
 use Rattle.std.proofs.Common.{ℕ, ◌≡◌, ◌≢◌, ◌↔◌, [], arith, find, filter, is_some, length, Some, None, option_copied, sym, ap, ◌∙◌, subst}
 use Rattle.std.specs.Prelude.{IsBitSet}
 use Rattle.vt_key.specs.promise.Queues.{without_first, has_stamp}
-use Rattle.vt_pending.specs.inside.Buckets.{in_bucket, not_in_bucket, list_at, without_list, letters_of, IsRow}
+use Rattle.vt_pending.specs.inside.Buckets.{in_bucket, not_in_bucket, list_at, without_list, letters_of, AreLists}
 use Rattle.vt_pending.proofs.Filters.{find-filter}
 use Rattle.vt_pending.proofs.Finding.{is_some-find, without-none}
-use Rattle.vt_pending.proofs.Rows.{own, in-own, row-without}
+use Rattle.vt_pending.proofs.Lists.{own, in-own, listed-without}
 use Rattle.vt_pending.proofs.Kept.{Keeps, empty-else, marks-of, passing-left, found-marked, length-without}
 use Rattle.vt_pending.proofs.pending.Pending.take_stamp.Given.{Over}
 use Rattle.vt_pending.proofs.pending.Pending.take_stamp.Goals as goal
@@ -55,7 +55,7 @@ taken g c =
     let found : find test all ≡ Some x = ap (find test) c.self.view_is ∙ sym c.find_stamp.ensures ∙ ap option_copied c.in_ok-find_stamp.was in
     let own_is : b.result ≡ own x = b.ensures.value in
     let list = c.take_marked-list.ensures.list ∙ kept.list b.result b.ensures.within ∙ ap (λ n. filter (in_bucket n) all) own_is in
-    let rest = subst (λ ls. IsRow ls (filter (not_in_bucket (own x)) all)) (ap (λ n. without_list n s.lists) (sym own_is) ∙ sym c.take_marked-list.ensures.others) (row-without (own x) s.lists all kept.row) in
+    let rest = subst (λ ls. AreLists ls (filter (not_in_bucket (own x)) all)) (ap (λ n. without_list n s.lists) (sym own_is) ∙ sym c.take_marked-list.ensures.others) (listed-without (own x) s.lists all kept.listed) in
     let bit = subst (λ n. IsBitSet left.result.bits n ↔ (c.remove_first.new.self ≢ [])) own_is left.ensures.bit in
     let bits = subst (λ n. (i : ℕ) → i ≢ n → IsBitSet left.result.bits i ↔ IsBitSet s.mask.bits i) own_is left.ensures.others in
     record {

@@ -1,4 +1,4 @@
-//! Trails in a row.
+//! Trails that lead to each other.
 
 ghost use Rattle.std.specs.Prelude.{◌≡◌, ◌≢◌, ◌↔◌, [], ◌∷◌, MatchOption, IfNone, IfSome, IsTrue};
 ghost use Rattle.std.specs.Option.{option_copied};
@@ -11,48 +11,48 @@ use crate::trail::Trail;
 use std::marker::Model;
 use std::mem::replace;
 
-/// Trails in a row, none of them empty, with where the first node of the first one lies. A clause sees the list of
-/// the lists of their items.
+/// Trails, none of them empty, with where the first node of the first one lies. A clause sees the list of the
+/// lists of their items.
 ///
 /// A trail doesn't use the back links of its nodes. So the back link of its first node leads to the first node of the
 /// next trail.
 ///
 /// It is not `Drop`, so code that loses a node is refused.
-pub struct Row<T> {
+pub struct Trails<T> {
     /// Where the first node of the first trail lies, or nothing.
     pub head: Link,
     /// The nodes of all trails.
     pub nodes: Blocks<Node<T>>,
 }
 
-impl<T> Model for Row<T> {
+impl<T> Model for Trails<T> {
     ghost use Rattle.std.specs.Prelude.{◌≡◌, List, None, map};
     ghost use Rattle.vt_nodes.specs.inside.Linked.{first_or, items};
-    ghost use Rattle.vt_nodes.specs.inside.Lines.{lines_of, StandInRow};
+    ghost use Rattle.vt_nodes.specs.inside.Lines.{lines_of, AreTrails};
 
     ghost Value = { List (List T) };
 
     ghost view = { λ r. map items (lines_of r.nodes.owned) };
 
-    ghost invariant = { λ r. (r.head ≡ first_or None r.nodes.owned) × StandInRow None (lines_of r.nodes.owned) };
+    ghost invariant = { λ r. (r.head ≡ first_or None r.nodes.owned) × AreTrails None (lines_of r.nodes.owned) };
 }
 
-impl<T> Row<T> {
+impl<T> Trails<T> {
     /// No trail.
-    pub fn new() -> Row<T>
+    pub fn new() -> Trails<T>
         ensures { result ≡ [] }
     {
-        Row {
+        Trails {
             head: Link::none(),
             nodes: Blocks::none(),
         }
     }
 
-    /// Ends a row without trails.
+    /// Ends where there is no trail.
     pub fn end(self)
         requires { self ≡ [] }
     {
-        let Row { head: _, nodes } = self;
+        let Trails { head: _, nodes } = self;
         nodes.end();
     }
 
@@ -64,18 +64,18 @@ impl<T> Row<T> {
     }
 
     /// Takes all trails out.
-    pub fn take(&mut self) -> Row<T>
+    pub fn take(&mut self) -> Trails<T>
         ensures { (result ≡ self.old) × (self.new ≡ []) }
     {
-        replace(self, Row::new())
+        replace(self, Trails::new())
     }
 
     /// Puts trails in where there are none.
-    pub fn put(&mut self, row: Row<T>)
+    pub fn put(&mut self, trails: Trails<T>)
         requires { self.old ≡ [] }
-        ensures { self.new ≡ row }
+        ensures { self.new ≡ trails }
     {
-        replace(self, row).end();
+        replace(self, trails).end();
     }
 
     /// The first item of the first trail; None only if there is no trail.
@@ -83,25 +83,25 @@ impl<T> Row<T> {
         ensures item { option_copied result ≡ first_item self.now }
         ensures some { IfNone result (self.now ≡ []) }
     {
-        let Some(head) = self.head.place() else {
+        let Some(head) = self.head.address() else {
             return None;
         };
         Some(&self.nodes.get(head).item)
     }
 
     /// The first trail, and the others. It reads the trail's first node, and writes none.
-    pub fn split_first(self) -> (Option<Trail<T>>, Row<T>)
+    pub fn split_first(self) -> (Option<Trail<T>>, Trails<T>)
         ensures parts { MatchOption result.0 ((self ≡ []) × (result.1 ≡ [])) (λ trail. self ≡ trail ∷ result.1) }
         ensures filled { IfSome result.0 (λ trail. trail ≢ []) }
     {
-        let Row { head, nodes } = self;
-        let Some(at) = head.place() else {
-            return (None, Row { head, nodes });
+        let Trails { head, nodes } = self;
+        let Some(at) = head.address() else {
+            return (None, Trails { head, nodes });
         };
         let next = nodes.get(at).prev;
         let (line, others) = nodes.split();
         let first = Trail { head, nodes: line };
-        let rest = Row {
+        let rest = Trails {
             head: next,
             nodes: others,
         };
@@ -109,19 +109,19 @@ impl<T> Row<T> {
     }
 
     /// The trail, with the others behind it. It writes only the trail's first node.
-    pub fn with_first(self, trail: Trail<T>) -> Row<T>
+    pub fn with_first(self, trail: Trail<T>) -> Trails<T>
         requires { trail ≢ [] }
         ensures { result ≡ trail ∷ self }
     {
-        let Row { head, nodes } = self;
+        let Trails { head, nodes } = self;
         let Trail {
             head: first,
             nodes: line,
         } = trail;
-        let Some(at) = first.place() else {
+        let Some(at) = first.address() else {
             unreachable!();
         };
-        Row {
+        Trails {
             head: first,
             nodes: set_first_prev(line, at, head).append(nodes),
         }

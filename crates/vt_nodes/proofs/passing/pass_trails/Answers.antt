@@ -2,7 +2,7 @@ use Rattle.std.proofs.Common.{rules, ◌≡◌, ◌∙◌, false, sym}
 use Rattle.vt_nodes.specs.inside.First.{first_fails}
 use Rattle.vt_nodes.specs.inside.Lines.{begins_with}
 use Rattle.vt_nodes.proofs.Further.{IsFurther, further, parted-here}
-use Rattle.vt_nodes.proofs.passing.pass_row.Goals as goal
+use Rattle.vt_nodes.proofs.passing.pass_trails.Goals as goal
 
 pub loop-path-preserved : goal.loop-path-preserved
 loop-path-preserved g c =
