@@ -11,7 +11,7 @@ use Rattle.std.proofs.lemmas.Bool.{cases_lt}
 use Rattle.std.proofs.lemmas.Bool.Decides.{nat_tests}
 use Rattle.vt_key.specs.promise.Times.{Time}
 use Rattle.vt_key.proofs.ListLemmas.{every-all, every-append, every-filter, every-flat_map, every-get, every-left, every-map, every-right, every-weaker}
-use Rattle.vt_logs.specs.declared.slot.Place.{Place}
+use Rattle.vt_logs.specs.declared.slot.Position.{Position}
 use Rattle.vt_logs.specs.inside.Sheets.{Noted, Page, NonePasses, PassesAlone, is_at, is_elsewhere, is_blank, nodes_at, events_in}
 use Rattle.vt_logs.specs.inside.Shelves.{lies_at, lies_elsewhere, placed_stays, placed_nodes, page_at, put_at, placed_of, placed_on, blank_page, page_below, page_rows, page_has_stamp, placed_events, is_used, is_unused, AreFiltered, IsShelf}
 use Rattle.vt_key.specs.declared.order.Stamp.{Stamp}
@@ -153,7 +153,7 @@ module _ {P K : Type 0} where
     }
 
   -- events are left out everywhere
-  module _ (keeps : Place × Noted P K → Bool) (sheets sheets' : List (Page P K)) (f : AreFiltered keeps sheets sheets') where
+  module _ (keeps : Position × Noted P K → Bool) (sheets sheets' : List (Page P K)) (f : AreFiltered keeps sheets sheets') where
     pub placed-filtered : (ns : List ℕ) → flat_map (placed_of sheets') ns ≡ filter keeps (flat_map (placed_of sheets) ns)
     placed-filtered ns =
         flat-same _ _ ns (every-all _ ns (λ m k. ap (map (put_at m)) (f.live m) ∙ sym (filter-map (put_at m) keeps (page_at sheets m).live)))
@@ -322,7 +322,7 @@ module _ {P K : Type 0} where
   shelf-along {sheets} {sheets'} {full} {full'} {current} {spare} {spare'} {needs} e f g shelf =
       subst (λ qs. IsShelf qs full' current spare' needs) (sym e) (subst (λ ns. IsShelf sheets ns current spare' needs) (sym f) (subst (λ ns. IsShelf sheets full current ns needs) (sym g) shelf))
 
-  -- ---- what lies at a place
+  -- ---- what lies at a position
 
   module _ (n i : ℕ) where
     at-same : (x : ℕ × Noted P K) → lies_at (record { sheet = n; index = i }) (put_at n x) ≡ is_at i x
@@ -571,7 +571,7 @@ module _ {P K : Type 0} where
       ∙ ap (λ m. sum_by placed_nodes (flat_map (placed_of sheets) (take i numbers)) + m) (sum-put n (page_at sheets n).live ∙ ap (λ (q : Page P K). sum_by nodes_at q.live) (sym read))
 
   module _ (n i : ℕ) where
-    -- what holds of each event at an index of a sheet holds of each at that place
+    -- what holds of each event at an index of a sheet holds of each at that position
     pub all-placed : (Q : Noted P K → Type 0) (sheets : List (Page P K)) (ns : List ℕ) → AllByRecursion (λ y. is_at i y ≡ true → Q y.1) (page_at sheets n).live
         → AllByRecursion (λ x. lies_at (record { sheet = n; index = i }) x ≡ true → Q x.1) (flat_map (placed_of sheets) ns)
     all-placed Q sheets ns h = every-flat_map _ (placed_of sheets) ns (every-all _ ns (λ m k. go m (eqb m n) refl))
@@ -584,8 +584,8 @@ module _ {P K : Type 0} where
             every-map (put_at m) _ (page_at sheets m).live (every-all _ (page_at sheets m).live (λ y k t. absurd (let f : false ≡ true = sym (ap (λ b. b && eqb y.0 i) e) ∙ t in cc)))
 
     -- a sheet where an event lies is known
-    pub place-known : (sheets : List (Page P K)) (ns : List ℕ) (x : Place × Noted P K) → PassesAlone (lies_at (record { sheet = n; index = i })) x (flat_map (placed_of sheets) ns) → n < length sheets
-    place-known sheets ns x a = go (cases_lt n (length sheets))
+    pub position-known : (sheets : List (Page P K)) (ns : List ℕ) (x : Position × Noted P K) → PassesAlone (lies_at (record { sheet = n; index = i })) x (flat_map (placed_of sheets) ns) → n < length sheets
+    position-known sheets ns x a = go (cases_lt n (length sheets))
       where
         go : (n < length sheets) ⊎ (length sheets ≤ n) → n < length sheets
         go (inl h) = h

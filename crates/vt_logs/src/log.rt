@@ -9,7 +9,7 @@ ghost use Rattle.vt_logs.specs.inside.Events.{is_stamped, is_above, all_nodes, l
 
 use crate::entry::Entry;
 use crate::shelf::Shelf;
-use crate::slot::{NOWHERE, Place, Slot};
+use crate::slot::{NOWHERE, Position, Slot};
 use std::alloc::Global;
 use std::marker::Model;
 use vt_key::{Fault, Stamp, When};
@@ -24,7 +24,7 @@ use vt_model::{Record, Row, Sent};
 pub struct Log<P: Copy, K: Copy> {
     shelf: Shelf<P, K>,
     // Where the last entry of each process lies; anywhere else for a process without entries.
-    lasts: Vec<Place>,
+    lasts: Vec<Position>,
 }
 
 impl<P: Copy, K: Copy> Model for Log<P, K> {
@@ -122,14 +122,14 @@ impl<P: Copy, K: Copy> Log<P, K> {
         requires { process < self.now.processes }
         ensures { MatchOption (last_of process self.now.events) (result.now ≡ []) (λ e. result.now ≡ e.sends) }
     {
-        let place = self.lasts[process as usize];
-        let Some(slot) = self.shelf.get(place) else {
+        let position = self.lasts[process as usize];
+        let Some(slot) = self.shelf.get(position) else {
             return &[];
         };
         if slot.process != process {
             return &[];
         }
-        self.shelf.sends_at(place)
+        self.shelf.sends_at(position)
     }
 
     /// Takes the last event of a process out; None, and nothing changes, if it has none.
@@ -139,8 +139,8 @@ impl<P: Copy, K: Copy> Log<P, K> {
         ensures left { self.new.events ≡ without_last process self.old.events }
         ensures processes { self.new.processes ≡ self.old.processes }
     {
-        let place = self.lasts[process as usize];
-        let Some(slot) = self.shelf.get(place) else {
+        let position = self.lasts[process as usize];
+        let Some(slot) = self.shelf.get(position) else {
             return None;
         };
         if slot.process != process {
@@ -148,7 +148,7 @@ impl<P: Copy, K: Copy> Log<P, K> {
         }
         let before = slot.before;
         let entry = slot.entry;
-        self.shelf.take_out(place);
+        self.shelf.take_out(position);
         self.lasts[process as usize] = before;
         Some(entry)
     }

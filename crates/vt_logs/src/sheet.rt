@@ -9,7 +9,7 @@ ghost use Rattle.vt_logs.specs.inside.Events.{is_stamped, rows_below};
 ghost use Rattle.vt_model.specs.promise.Simulation.{rows_of};
 
 use crate::entry::Entry;
-use crate::slot::{Place, Slot};
+use crate::slot::{Position, Slot};
 use std::alloc::Global;
 use std::marker::Model;
 use vt_key::{Fault, Key, Stamp, When};
@@ -128,7 +128,7 @@ impl<P: Copy, K: Copy> Sheet<P, K> {
     pub(crate) fn write(
         &mut self,
         process: u32,
-        before: Place,
+        before: Position,
         entry: Entry<P, K>,
         sends: &[Sent<P>],
         records: &[Record],

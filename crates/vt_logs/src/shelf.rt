@@ -10,7 +10,7 @@ ghost use Rattle.vt_logs.specs.inside.Shelves.{lies_at, lies_elsewhere, placed_e
 
 use crate::entry::Entry;
 use crate::sheet::Sheet;
-use crate::slot::{Place, Slot};
+use crate::slot::{Position, Slot};
 use std::alloc::Global;
 use std::marker::Model;
 use vt_key::{Fault, Stamp, When};
@@ -21,7 +21,7 @@ const MOST_NODES: usize = 0x4000_0000_0000_0000;
 
 /// Sheets of entries. The last one that was begun is written.
 ///
-/// Contracts see all entries in the order in which they were written, each with its place (`Shelved`).
+/// Contracts see all entries in the order in which they were written, each with its position (`Shelved`).
 #[derive(Drop)]
 pub(crate) struct Shelf<P: Copy, K: Copy> {
     alloc: Global,
@@ -149,16 +149,16 @@ impl<P: Copy, K: Copy> Shelf<P, K> {
         Ok(())
     }
 
-    /// Writes an entry, with what it sent and recorded, and returns its place. There must be room for it.
+    /// Writes an entry, with what it sent and recorded, and returns its position. There must be room for it.
     #[inline(always)]
     pub(crate) fn push(
         &mut self,
         process: u32,
-        before: Place,
+        before: Position,
         entry: Entry<P, K>,
         sends: &[Sent<P>],
         records: &[Record],
-    ) -> Place
+    ) -> Position
         requires room { self.old.has_room ≡ true }
         requires few_sends { length sends.now ≤ MOST_SENDS }
         requires few_records { length records.now ≤ MOST_RECORDS }
@@ -168,51 +168,51 @@ impl<P: Copy, K: Copy> Shelf<P, K> {
         let index = self.sheets[self.current as usize].write(
             process, before, entry, sends, records,
         );
-        Place {
+        Position {
             sheet: self.current,
             index,
         }
     }
 
-    /// The slot at a place, if an entry lies there.
+    /// The slot at a position, if an entry lies there.
     #[inline(always)]
-    pub(crate) fn get(&self, place: Place) -> Option<&Slot<P, K>>
-        ensures { MatchOption result (NonePasses (lies_at place) self.now.placed) (λ slot. (x : Noted P K) × PassesAlone (lies_at place) (place, x) self.now.placed × IsSlotOf slot.now x) }
+    pub(crate) fn get(&self, position: Position) -> Option<&Slot<P, K>>
+        ensures { MatchOption result (NonePasses (lies_at position) self.now.placed) (λ slot. (x : Noted P K) × PassesAlone (lies_at position) (position, x) self.now.placed × IsSlotOf slot.now x) }
     {
-        let Some(sheet) = self.sheets.get(place.sheet as usize) else {
+        let Some(sheet) = self.sheets.get(position.sheet as usize) else {
             return None;
         };
-        sheet.get(place.index as usize)
+        sheet.get(position.index as usize)
     }
 
-    /// What the entry at a place sent; nothing if none lies there.
-    pub(crate) fn sends_at(&self, place: Place) -> &[Sent<P>]
-        ensures { AllByRecursion (λ x. lies_at place x ≡ true → result.now ≡ x.1.event.sends) self.now.placed }
+    /// What the entry at a position sent; nothing if none lies there.
+    pub(crate) fn sends_at(&self, position: Position) -> &[Sent<P>]
+        ensures { AllByRecursion (λ x. lies_at position x ≡ true → result.now ≡ x.1.event.sends) self.now.placed }
     {
-        let Some(sheet) = self.sheets.get(place.sheet as usize) else {
+        let Some(sheet) = self.sheets.get(position.sheet as usize) else {
             return &[];
         };
-        sheet.sends_at(place.index as usize)
+        sheet.sends_at(position.index as usize)
     }
 
-    /// Takes the entry at a place out, if one lies there.
-    pub(crate) fn take_out(&mut self, place: Place)
-        ensures { self.new.placed ≡ filter (lies_elsewhere place) self.old.placed }
+    /// Takes the entry at a position out, if one lies there.
+    pub(crate) fn take_out(&mut self, position: Position)
+        ensures { self.new.placed ≡ filter (lies_elsewhere position) self.old.placed }
     {
-        let Some(slot) = self.get(place) else {
+        let Some(slot) = self.get(position) else {
             return;
         };
         let nodes = 1 + slot.send_count as usize;
-        self.drop_at(place, nodes);
+        self.drop_at(position, nodes);
     }
 
-    /// Takes out the entry at a place, whose undo takes so many nodes.
-    fn drop_at(&mut self, place: Place, nodes: usize)
-        requires { (x : Noted P K) × PassesAlone (lies_at place) (place, x) self.old.placed × (nodes ≡ placed_nodes (place, x)) }
-        ensures { self.new.placed ≡ filter (lies_elsewhere place) self.old.placed }
+    /// Takes out the entry at a position, whose undo takes so many nodes.
+    fn drop_at(&mut self, position: Position, nodes: usize)
+        requires { (x : Noted P K) × PassesAlone (lies_at position) (position, x) self.old.placed × (nodes ≡ placed_nodes (position, x)) }
+        ensures { self.new.placed ≡ filter (lies_elsewhere position) self.old.placed }
     {
         self.needs -= nodes;
-        self.sheets[place.sheet as usize].take_out(place.index as usize);
+        self.sheets[position.sheet as usize].take_out(position.index as usize);
     }
 
     /// Forgets the entries before a floor.

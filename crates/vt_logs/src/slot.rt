@@ -4,13 +4,13 @@ use crate::entry::Entry;
 
 /// Where an entry lies: in which sheet, and at which index.
 #[derive(Clone, Copy)]
-pub(crate) struct Place {
+pub(crate) struct Position {
     pub(crate) sheet: u32,
     pub(crate) index: u32,
 }
 
-/// A place without an entry.
-pub(crate) const NOWHERE: Place = Place {
+/// A position without an entry.
+pub(crate) const NOWHERE: Position = Position {
     sheet: u32::MAX,
     index: 0,
 };
@@ -20,7 +20,7 @@ pub(crate) const NOWHERE: Place = Place {
 pub(crate) struct Slot<P: Copy, K: Copy> {
     pub(crate) entry: Entry<P, K>,
     /// Where the last entry of its process lay when it was written.
-    pub(crate) before: Place,
+    pub(crate) before: Position,
     /// The index of its process among the worker's.
     pub(crate) process: u32,
     pub(crate) first_send: u32,

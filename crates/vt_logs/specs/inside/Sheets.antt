@@ -10,14 +10,14 @@ use Rattle.vt_model.specs.declared.rows.Row.{Row}
 use Rattle.vt_model.specs.declared.sending.Sent.{Sent}
 use Rattle.vt_model.specs.promise.Simulation.{rows_of}
 use Rattle.vt_logs.specs.declared.entry.Entry.{Entry}
-use Rattle.vt_logs.specs.declared.slot.Place.{Place}
+use Rattle.vt_logs.specs.declared.slot.Position.{Position}
 use Rattle.vt_logs.specs.declared.slot.Slot.{Slot}
 use Rattle.vt_logs.specs.inside.Events.{Logged, time_of, is_above, nodes_of}
 
 -- an executed event, and where the one before it of its process lies, if that isn't gone
 pub record Noted (P K : Type 0) : Type 0 where
   pub event : Logged P K
-  pub before : Place
+  pub before : Position
 
 -- what is at hand of a list: the items that aren't gone, each with its index, from an index on
 abbrev pub put_if : {X : Type 0} → ℕ → Option X → List (ℕ × X) → List (ℕ × X)
@@ -58,7 +58,7 @@ module _ {X : Type 0} (first count : X → ℕ) where
 
 module _ {P K : Type 0} where
   -- an event of these parts
-  abbrev pub noted_event : ℕ → Place → Entry P K → List (Sent P) → List Record → Noted P K
+  abbrev pub noted_event : ℕ → Position → Entry P K → List (Sent P) → List Record → Noted P K
   noted_event process before entry sends records = record {
     event = record { process = process; entry = entry; sends = sends; records = records };
     before = before;

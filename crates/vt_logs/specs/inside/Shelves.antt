@@ -4,38 +4,38 @@ use Rattle.std.specs.List.{filter, flat_map, sum_by, count_by, list_any, AllByRe
 use Rattle.vt_key.specs.promise.Times.{Time}
 use Rattle.vt_key.specs.declared.order.Stamp.{Stamp}
 use Rattle.vt_model.specs.declared.rows.Row.{Row}
-use Rattle.vt_logs.specs.declared.slot.Place.{Place}
+use Rattle.vt_logs.specs.declared.slot.Position.{Position}
 use Rattle.vt_logs.specs.inside.Events.{Logged, is_above, is_stamped, nodes_of, rows_below}
 use Rattle.vt_logs.specs.inside.Sheets.{Noted, Page, is_blank, stays, events_in}
 
--- what a contract sees of the sheets of a log: the events in order, each with its place, and whether there is room for one more
+-- what a contract sees of the sheets of a log: the events in order, each with its position, and whether there is room for one more
 pub record Shelved (P K : Type 0) : Type 0 where
-  pub placed : List (Place × Noted P K)
+  pub placed : List (Position × Noted P K)
   pub has_room : Bool
 
--- two places are one
-abbrev pub same_place : Place → Place → Bool
-same_place a b = nat_eq a.sheet b.sheet && nat_eq a.index b.index
+-- two positions are one
+abbrev pub same_position : Position → Position → Bool
+same_position a b = nat_eq a.sheet b.sheet && nat_eq a.index b.index
 
 module _ {P K : Type 0} where
-  -- whether an event lies at a place
-  abbrev pub lies_at : Place → Place × Noted P K → Bool
-  lies_at place x = same_place x.0 place
+  -- whether an event lies at a position
+  abbrev pub lies_at : Position → Position × Noted P K → Bool
+  lies_at position x = same_position x.0 position
 
   -- whether it doesn't
-  abbrev pub lies_elsewhere : Place → Place × Noted P K → Bool
-  lies_elsewhere place x = not (lies_at place x)
+  abbrev pub lies_elsewhere : Position → Position × Noted P K → Bool
+  lies_elsewhere position x = not (lies_at position x)
 
   -- whether it isn't before a floor
-  abbrev pub placed_stays : Time → Place × Noted P K → Bool
+  abbrev pub placed_stays : Time → Position × Noted P K → Bool
   placed_stays floor x = is_above floor x.1.event
 
   -- how many nodes its undo takes
-  abbrev pub placed_nodes : Place × Noted P K → ℕ
+  abbrev pub placed_nodes : Position × Noted P K → ℕ
   placed_nodes x = nodes_of x.1.event
 
-  -- the events without their places
-  abbrev pub placed_events : List (Place × Noted P K) → List (Logged P K)
+  -- the events without their positions
+  abbrev pub placed_events : List (Position × Noted P K) → List (Logged P K)
   placed_events placed = map (λ x. x.1.event) placed
 
   -- a sheet without events
@@ -46,16 +46,16 @@ module _ {P K : Type 0} where
   abbrev pub page_at : List (Page P K) → ℕ → Page P K
   page_at sheets n = slice_index_or sheets n blank_page
 
-  -- an event of the sheet of a number, with its place
-  abbrev pub put_at : ℕ → ℕ × Noted P K → Place × Noted P K
+  -- an event of the sheet of a number, with its position
+  abbrev pub put_at : ℕ → ℕ × Noted P K → Position × Noted P K
   put_at n x = (record { sheet = n; index = x.0 }, x.1)
 
-  -- the events of the sheet of a number, with their places
-  abbrev pub placed_of : List (Page P K) → ℕ → List (Place × Noted P K)
+  -- the events of the sheet of a number, with their positions
+  abbrev pub placed_of : List (Page P K) → ℕ → List (Position × Noted P K)
   placed_of sheets n = map (put_at n) (page_at sheets n).live
 
   -- the events of the full sheets, and of the current one
-  abbrev pub placed_on : List (Page P K) → List ℕ → ℕ → List (Place × Noted P K)
+  abbrev pub placed_on : List (Page P K) → List ℕ → ℕ → List (Position × Noted P K)
   placed_on sheets full current = flat_map (placed_of sheets) (full ++ current ∷ [])
 
   -- whether there is room in the current sheet
@@ -83,7 +83,7 @@ module _ {P K : Type 0} where
   is_unused sheets n = is_blank (page_at sheets n)
 
   -- the sheets without the events that fail a test
-  pub record AreFiltered (keeps : Place × Noted P K → Bool) (sheets others : List (Page P K)) : Type 0 where
+  pub record AreFiltered (keeps : Position × Noted P K → Bool) (sheets others : List (Page P K)) : Type 0 where
     pub long : length others ≡ length sheets
     pub live : (m : ℕ) → (page_at others m).live ≡ filter (λ x. keeps (put_at m x)) (page_at sheets m).live
     pub room : (m : ℕ) → (page_at others m).has_room ≡ true → (page_at sheets m).has_room ≡ true

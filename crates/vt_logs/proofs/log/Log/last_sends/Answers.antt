@@ -11,9 +11,9 @@ returns-in_default g c =
     let i = c.self.inside in
     let p = c.args.process in
     let known = subst (λ (v : HeldLog _ _). p < v.processes) (sym c.self.view_is) c.requires in
-    let at = get_or_read i.lasts.items p c.index-place.result.now known c.index-place.ensures anywhere in
+    let at = get_or_read i.lasts.items p c.index-position.result.now known c.index-position.ensures anywhere in
     let chain = subst (λ q. IsChain q (filter (is_placed_of p) i.shelf.placed)) (sym at) (c.self.invariant p known) in
-    let none = subst (λ (v : HeldLog _ _). last_of p v.events ≡ None) c.self.view_is (last-none p i.shelf.placed (none-there p c.index-place.result.now i.shelf.placed chain c.in_default.ensures)) in
+    let none = subst (λ (v : HeldLog _ _). last_of p v.events ≡ None) c.self.view_is (last-none p i.shelf.placed (none-there p c.index-position.result.now i.shelf.placed chain c.in_default.ensures)) in
     sends-none _ none
 
 pub returns-then-slot-process : goal.returns-then-slot-process
@@ -21,20 +21,20 @@ returns-then-slot-process g c =
     let i = c.self.inside in
     let p = c.args.process in
     let known = subst (λ (v : HeldLog _ _). p < v.processes) (sym c.self.view_is) c.requires in
-    let at = get_or_read i.lasts.items p c.index-place.result.now known c.index-place.ensures anywhere in
+    let at = get_or_read i.lasts.items p c.index-position.result.now known c.index-position.ensures anywhere in
     let chain = subst (λ q. IsChain q (filter (is_placed_of p) i.shelf.placed)) (sym at) (c.self.invariant p known) in
     let found = c.in-Some.ensures in
     let none = subst (λ (v : HeldLog _ _). last_of p v.events ≡ None) c.self.view_is
-    (last-none p i.shelf.placed (other-there p c.index-place.result.now i.shelf.placed chain found.0 found.1 (differ c.in-Some.slot.now.process found.0.event.process p found.2.process c.if-slot-process.true))) in
+    (last-none p i.shelf.placed (other-there p c.index-position.result.now i.shelf.placed chain found.0 found.1 (differ c.in-Some.slot.now.process found.0.event.process p found.2.process c.if-slot-process.true))) in
     sends-none _ none
 
 pub returns : goal.returns
 returns g c =
     let i = c.self.inside in
     let p = c.args.process in
-    let q = c.index-place.result.now in
+    let q = c.index-position.result.now in
     let known = subst (λ (v : HeldLog _ _). p < v.processes) (sym c.self.view_is) c.requires in
-    let at = get_or_read i.lasts.items p q known c.index-place.ensures anywhere in
+    let at = get_or_read i.lasts.items p q known c.index-position.ensures anywhere in
     let chain = subst (λ q. IsChain q (filter (is_placed_of p) i.shelf.placed)) (sym at) (c.self.invariant p known) in
     let found = c.in-Some.ensures in
     let own = agree c.in-Some.slot.now.process found.0.event.process p found.2.process c.if-slot-process.false in

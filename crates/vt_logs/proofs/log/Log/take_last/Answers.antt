@@ -13,9 +13,9 @@ returns-in_default g c =
     let i = c.self.inside in
     let p = c.args.process in
     let known = subst (λ (v : HeldLog _ _). p < v.processes) (sym c.self.view_is) c.requires in
-    let at = get_or_read i.lasts.items p c.index-place.result.now known c.index-place.ensures anywhere in
+    let at = get_or_read i.lasts.items p c.index-position.result.now known c.index-position.ensures anywhere in
     let chain = subst (λ q. IsChain q (filter (is_placed_of p) i.shelf.placed)) (sym at) (c.self.invariant p known) in
-    let none = none-there p c.index-place.result.now i.shelf.placed chain c.in_default.ensures in
+    let none = none-there p c.index-position.result.now i.shelf.placed chain c.in_default.ensures in
     record {
       taken = sym (ap (option_map (λ (e : Logged _ _). e.entry)) (subst (λ (v : HeldLog _ _). last_of p v.events ≡ None) c.self.view_is (last-none p i.shelf.placed none)));
       left = subst (λ (v : HeldLog _ _). v.events ≡ without_last p v.events) c.self.view_is (without-none p i.shelf.placed none);
@@ -27,10 +27,10 @@ returns-then-slot-process g c =
     let i = c.self.inside in
     let p = c.args.process in
     let known = subst (λ (v : HeldLog _ _). p < v.processes) (sym c.self.view_is) c.requires in
-    let at = get_or_read i.lasts.items p c.index-place.result.now known c.index-place.ensures anywhere in
+    let at = get_or_read i.lasts.items p c.index-position.result.now known c.index-position.ensures anywhere in
     let chain = subst (λ q. IsChain q (filter (is_placed_of p) i.shelf.placed)) (sym at) (c.self.invariant p known) in
     let found = c.in-Some.ensures in
-    let none = other-there p c.index-place.result.now i.shelf.placed chain found.0 found.1 (differ c.in-Some.slot.now.process found.0.event.process p found.2.process c.if-slot-process.true) in
+    let none = other-there p c.index-position.result.now i.shelf.placed chain found.0 found.1 (differ c.in-Some.slot.now.process found.0.event.process p found.2.process c.if-slot-process.true) in
     record {
       taken = sym (ap (option_map (λ (e : Logged _ _). e.entry)) (subst (λ (v : HeldLog _ _). last_of p v.events ≡ None) c.self.view_is (last-none p i.shelf.placed none)));
       left = subst (λ (v : HeldLog _ _). v.events ≡ without_last p v.events) c.self.view_is (without-none p i.shelf.placed none);
@@ -42,19 +42,19 @@ invariant_of-self g c =
     let i = c.self.inside in
     let p = c.args.process in
     let known = subst (λ (v : HeldLog _ _). p < v.processes) (sym c.self.view_is) c.requires in
-    let at = get_or_read i.lasts.items p c.index-place.result.now known c.index-place.ensures anywhere in
+    let at = get_or_read i.lasts.items p c.index-position.result.now known c.index-position.ensures anywhere in
     let found = c.in-Some.ensures in
     let own = sym found.2.process ∙ c.if-slot-process.false in
     subst (λ b. AreChained (slice_set i.lasts.items p b) c.take_out.new.self.placed) (sym found.2.before)
-    (subst (AreChained (slice_set i.lasts.items p found.0.before)) (sym c.take_out.ensures) (chained-pop i.lasts.items i.shelf.placed p c.index-place.result.now found.0 known at own found.1 c.self.invariant))
+    (subst (AreChained (slice_set i.lasts.items p found.0.before)) (sym c.take_out.ensures) (chained-pop i.lasts.items i.shelf.placed p c.index-position.result.now found.0 known at own found.1 c.self.invariant))
 
 pub returns : goal.returns
 returns g c =
     let i = c.self.inside in
     let p = c.args.process in
-    let q = c.index-place.result.now in
+    let q = c.index-position.result.now in
     let known = subst (λ (v : HeldLog _ _). p < v.processes) (sym c.self.view_is) c.requires in
-    let at = get_or_read i.lasts.items p q known c.index-place.ensures anywhere in
+    let at = get_or_read i.lasts.items p q known c.index-position.ensures anywhere in
     let chain = subst (λ q. IsChain q (filter (is_placed_of p) i.shelf.placed)) (sym at) (c.self.invariant p known) in
     let found = c.in-Some.ensures in
     let own = agree c.in-Some.slot.now.process found.0.event.process p found.2.process c.if-slot-process.false in
