@@ -1,27 +1,27 @@
 -- What a sheet holds after a write, after an entry is marked as gone, and after the last slot is dropped.
-use Rattle.std.proofs.Common.{Result, Ok, Err, IfOk, ◌≡◌, ℕ, suc, ◌+◌, ◌-◌, ◌≤◌, ◌<◌, ◌^◌, Fits, w32, Bool, true, false, not, ◌||◌, ltb, min, List, [], ◌∷◌, ◌++◌, map, length, take, drop, get_or, Option, Some, None, slice_get, slice_set, option_map, refl, sym, ◌∙◌, ap, subst, arith, append_assoc, length-append, length-drop, length-take}
+use Rattle.std.proofs.Common.{Result, Ok, Err, IfOk, ◌≡◌, ℕ, zero, suc, ◌+◌, ◌-◌, ◌≤◌, ◌<◌, ◌^◌, Fits, w8, w32, w64, Bool, true, false, not, ◌||◌, ltb, min, List, [], ◌∷◌, ◌++◌, map, length, take, drop, get_or, Option, Some, None, slice_get, slice_set, option_map, refl, sym, ◌∙◌, ap, subst, arith, append_assoc, length-append, length-drop, length-take}
 use Rattle.std.specs.List.{enumerate_from, filter, flat_map, list_any, sum_by, AllByRecursion}
 use Rattle.vt_model.proofs.SendLemmas.{enumerate_from-append}
 use Rattle.std.proofs.lemmas.List.Concat.{flat_map-append}
 use Rattle.std.proofs.lemmas.List.Elements.{filter-append}
-use Rattle.std.proofs.lemmas.List.{append-nil, length-map, map-append, map-set, take-append-drop, take_more, length-take-le}
+use Rattle.std.proofs.lemmas.List.{append-nil, length_push, length-map, map-append, map-set, take-append-drop, take_all, take_more, length-take-le}
 use Rattle.std.proofs.lemmas.List.Sums.{sum_by_push}
 use Rattle.std.specs.Ordering.{is_ge, is_lt, nat_cmp}
-use Rattle.std.proofs.lemmas.Option.{slice_get-map}
+use Rattle.std.proofs.lemmas.Option.{slice_get-get_or, slice_get-map}
 use Rattle.std.proofs.lemmas.Bool.Decides.{nat_tests}
 use Rattle.vt_key.specs.promise.Times.{Time}
 use Rattle.vt_key.proofs.ListLemmas.{every-append, every-both, every-filter, every-get, every-left, every-map, every-put, every-weaker}
 use Rattle.vt_key.specs.promise.Keys.{Key}
 use Rattle.vt_key.specs.declared.order.Stamp.{Stamp}
 use Rattle.vt_model.specs.promise.Simulation.{rows_of}
-use Rattle.vt_model.specs.declared.limits.TheConstants.{MAX_RECORDS}
+use Rattle.vt_model.specs.declared.limits.TheConstants.{MAX_RECORDS, MAX_SENDS}
 use Rattle.vt_model.specs.declared.rows.Record.{Record}
 use Rattle.vt_model.specs.declared.rows.Row.{Row}
 use Rattle.vt_model.specs.declared.sending.Sent.{Sent}
 use Rattle.vt_logs.specs.declared.slot.Slot.{Slot}
 use Rattle.vt_logs.specs.inside.Events.{Logged, time_of, is_below, is_stamped, event_rows, rows_below}
 use Rattle.vt_logs.specs.inside.Sheets.{Noted, put_if, present_from, NonePasses, PassesAlone, AreLaid, range_of, noted, noted_event, live_in, events_in, has_slot_stamp, slot_rows, is_at, is_elsewhere, stays, nodes_at, IsDated, IsSheet}
-use Rattle.vt_logs.proofs.PresentLemmas.{filter-none, filter-all, alone-sum, present-push, present-pop, present-alone, present-none, present-removed, present-high}
+use Rattle.vt_logs.proofs.PresentLemmas.{any-append, filter-none, filter-all, alone-sum, present-push, present-pop, present-alone, present-none, present-removed, present-high}
 use Rattle.vt_logs.proofs.LaidLemmas.{laid-push, laid-pop, laid-fits, laid-last, laid-set, range-new, noted-grow}
 
 module _ {P K : Type 0} where
@@ -181,6 +181,10 @@ module _ {P K : Type 0} where
       subst (λ rs. IsSheet others other_sends rs earliest latest needs) (sym g)
       (subst (λ ms. IsSheet others ms records earliest latest needs) (sym f) (subst (λ ss. IsSheet ss sends records earliest latest needs) (sym e) sheet))
 
+  pub live-along : {slots others : List (Slot P K)} {sends other_sends : List (Sent P)} {records other_records : List Record} {live : List (ℕ × Noted P K)}
+      → others ≡ slots → other_sends ≡ sends → other_records ≡ records → live_in sends records slots ≡ live → live_in other_sends other_records others ≡ live
+  live-along e f g h = (λ j. live_in (f j) (g j) (e j)) ∙ h
+
 -- bounds of a time that was widened
 pub dated-wider : {P K : Type 0} (first last earliest latest : Time) (live : List (ℕ × Noted P K)) → first ≤ earliest → latest ≤ last → AllByRecursion (IsDated earliest latest) live → AllByRecursion (IsDated first last) live
 dated-wider first last earliest latest live low high dated = every-weaker _ _ live (λ x d. (let a = d.0 in omega (arith, low, a), let b = d.1 in omega (arith, high, b))) dated
@@ -193,6 +197,26 @@ fits-short a b e h = omega (arith, e, h)
 
 pub fits-behind : (a b c n : ℕ) → a + n ≤ c → b ≤ n → a + b ≤ c
 fits-behind a b c n h k = omega (arith, h, k)
+
+-- so few are counted in one byte, and one more than so few beside as many as there may be in 64 bits
+pub fits-sends : (n : ℕ) → n ≤ MAX_SENDS → Fits w8 n
+fits-sends n h = omega (arith, h)
+
+pub fits-records : (n : ℕ) → n ≤ MAX_RECORDS → Fits w8 n
+fits-records n h = omega (arith, h)
+
+pub fits-one : (n : ℕ) → n ≤ MAX_SENDS → Fits w64 (1 + n)
+fits-one n h = omega (arith, h)
+
+pub fits-needs : (needs sum n : ℕ) → needs ≡ sum → sum ≤ 2 ^ 62 → n ≤ MAX_SENDS → Fits w64 (needs + (1 + n))
+fits-needs needs sum n e h k = omega (arith, e, h, k)
+
+-- after a pop there is room for one item
+pub room-popped : (n m most most' : ℕ) → n + 1 ≡ m → m ≤ most → most' ≡ most → n < most'
+room-popped n m most most' e h f = omega (arith, e, h, f)
+
+pub shorter : {X : Type 0} (xs ys : List X) (y : X) → xs ≡ ys ++ y ∷ [] → length ys < length xs
+shorter xs ys y e = let a = ap length e in let b = length_push ys y in omega (arith, a, b)
 
 pub live-high : {P K : Type 0} (sends : List (Sent P)) (records : List Record) (slots : List (Slot P K)) (n : ℕ) → length slots ≤ n → AllByRecursion (λ x. x.0 < n) (live_in sends records slots)
 live-high sends records slots n h = present-high 0 n (map (noted sends records) slots) (let e = length-map slots (noted sends records) in omega (arith, e, h))
@@ -256,6 +280,34 @@ flat-more f xs i x olds rows new h e before is =
     is ∙ ap (λ rs. rs ++ f x) before ∙ append_assoc olds (flat_map f (take i xs)) (f x)
     ∙ ap (λ rs. olds ++ rs)
     (sym (ap (flat_map f) (take_more xs i x h ∙ ap (λ y. take i xs ++ y ∷ []) (sym e)) ∙ flat_map-append f (take i xs) (x ∷ []) ∙ ap (λ rs. flat_map f (take i xs) ++ rs) (append-nil (f x))))
+
+pub flat-total : {X Y : Type 0} (f : X → List Y) (xs : List X) (i : ℕ) (olds rows : List Y) → length xs ≤ i → rows ≡ olds ++ flat_map f (take i xs) → rows ≡ olds ++ flat_map f xs
+flat-total f xs i olds rows past before = before ∙ ap (λ ys. olds ++ flat_map f ys) (take_all i xs past)
+
+-- what holds of each item holds of the one that a loop has come to
+pub every-item : {X : Type 0} (Q : X → Type 0) (xs : List X) (i : ℕ) (x : X) → i < length xs → x ≡ get_or xs i x → AllByRecursion Q xs → Q x
+every-item Q xs i x h e all = every-get Q xs i x (slice_get-get_or xs i x h ∙ ap Some (sym e)) all
+
+-- a loop that looks for an item that passes a test: it has come to one, to one that doesn't pass, and to the end
+pub any-found : {X : Type 0} (test : X → Bool) (xs : List X) (i : ℕ) (x : X) → i < length xs → x ≡ get_or xs i x → test x ≡ true → true ≡ list_any test xs
+any-found {X} test xs i x h e t = go xs i (slice_get-get_or xs i x h ∙ ap Some (sym e))
+  where
+    or-right : (b d : Bool) → true ≡ d → true ≡ (b || d)
+    or-right true d k = refl
+    or-right false d k = k
+
+    go : (ys : List X) (k : ℕ) → slice_get ys k ≡ Some x → true ≡ list_any test ys
+    go [] k g = absurd (let n : None ≡ Some x = g in cc)
+    go (y ∷ ys) zero g = let same : y ≡ x = (let k : Some y ≡ Some x = g in cc) in ap (λ b. b || list_any test ys) (sym (ap test same ∙ t))
+    go (y ∷ ys) (suc k) g = or-right (test y) (list_any test ys) (go ys k g)
+
+pub any-more : {X : Type 0} (test : X → Bool) (xs : List X) (i : ℕ) (x : X) → i < length xs → x ≡ get_or xs i x → list_any test (take i xs) ≡ false → test x ≡ false → list_any test (take (i + 1) xs) ≡ false
+any-more test xs i x h e none here =
+    ap (list_any test) (take_more xs i x h ∙ ap (λ y. take i xs ++ y ∷ []) (sym e)) ∙ any-append test (take i xs) (x ∷ [])
+    ∙ ap (λ b. b || (test x || false)) none ∙ ap (λ b. b || false) here
+
+pub any-total : {X : Type 0} (test : X → Bool) (xs : List X) (i : ℕ) → length xs ≤ i → list_any test (take i xs) ≡ false → false ≡ list_any test xs
+any-total test xs i past none = sym none ∙ ap (list_any test) (take_all i xs past)
 
 not-below : (floor t : Time) → floor ≤ t → ltb t floor ≡ false
 not-below floor t h = grind (arith, nat_tests)

@@ -1,7 +1,7 @@
 -- What sheets hold together, after one of them or all are changed.
 use Rattle.std.proofs.Common.{Option, Some, None, MatchOption, ◌≡◌, ℕ, zero, suc, ◌+◌, ◌-◌, ◌≤◌, ◌<◌, ◌^◌, ◌%◌, ◌≢◌, Bool, true, false, not, ◌&&◌, ◌||◌, cond, eqb, List, [], ◌∷◌, ◌++◌, ◌⊎◌, inl, inr, map, length, take, drop, get_or, slice_set, refl, sym, ◌∙◌, ap, subst, arith, append_assoc, get_or-set_same, get_or-set_other}
 use Rattle.std.specs.List.{filter, flat_map, list_any, sum_by, count_by, AllByRecursion}
-use Rattle.std.proofs.lemmas.List.{append-nil, drop_all, get_or_past, get_or_read, length-map, length-set, take_all, take_more, map-append}
+use Rattle.std.proofs.lemmas.List.{append-nil, drop_all, get_or_default, get_or_past, get_or_read, length-map, length-set, take_all, take_more, map-append}
 use Rattle.std.proofs.lemmas.List.Concat.{flat_map-append}
 use Rattle.std.proofs.lemmas.List.Elements.{filter-append, filter_more}
 use Rattle.std.proofs.lemmas.List.Sums.{sum_by-append, sum_by-cons, sum_by_push}
@@ -11,12 +11,13 @@ use Rattle.std.proofs.lemmas.Bool.{cases_lt}
 use Rattle.std.proofs.lemmas.Bool.Decides.{nat_tests}
 use Rattle.vt_key.specs.promise.Times.{Time}
 use Rattle.vt_key.proofs.ListLemmas.{every-all, every-append, every-filter, every-flat_map, every-get, every-left, every-map, every-right, every-weaker}
+use Rattle.vt_model.specs.declared.rows.Row.{Row}
 use Rattle.vt_logs.specs.declared.slot.Position.{Position}
 use Rattle.vt_logs.specs.inside.Sheets.{Noted, Page, NonePasses, PassesAlone, is_at, is_elsewhere, is_blank, nodes_at, events_in}
 use Rattle.vt_logs.specs.inside.Shelves.{lies_at, lies_elsewhere, placed_stays, placed_nodes, page_at, put_at, placed_of, placed_on, blank_page, page_below, page_rows, page_has_stamp, placed_events, is_used, is_unused, AreFiltered, IsShelf}
 use Rattle.vt_key.specs.declared.order.Stamp.{Stamp}
 use Rattle.vt_logs.specs.inside.Events.{is_stamped, rows_below}
-use Rattle.vt_logs.proofs.SheetLemmas.{rows_below-append}
+use Rattle.vt_logs.proofs.SheetLemmas.{rows_below-append, any-found, any-more, flat-more}
 use Rattle.vt_logs.proofs.PresentLemmas.{alone-between, alone-none, any-append, filter-same, filter-all}
 
 -- ---- lists
@@ -560,6 +561,29 @@ pub map-done : {X : Type 0} (f : X → X) (xs : List X) (i : ℕ) → length xs 
 map-done f xs i h = (λ j. map f (take_all i xs h j) ++ drop_all i xs h j) ∙ append-nil (map f xs)
 
 module _ {P K : Type 0} where
+  -- the sheet that a loop over numbers has come to
+  module _ (sheets : List (Page P K)) (numbers : List ℕ) (i : ℕ) (page : Page P K) (h : i < length numbers) (known : AllByRecursion (λ n. n < length sheets) numbers) (e : page ≡ get_or sheets (get_or numbers i 0) page) where
+    read-here : page ≡ page_at sheets (get_or numbers i 0)
+    read-here = page-read sheets (get_or numbers i 0) page (numbers-known (λ n. n < length sheets) numbers i h known) e
+
+    number-here : get_or numbers i 0 ≡ get_or numbers i (get_or numbers i 0)
+    number-here = get_or_default numbers i 0 (get_or numbers i 0) h
+
+    pub rows-more : (floor : Time) (olds rows new : List Row) → rows ≡ olds ++ flat_map (page_rows floor sheets) (take i numbers) → new ≡ rows ++ rows_below floor (events_in page.live)
+        → new ≡ olds ++ flat_map (page_rows floor sheets) (take (i + 1) numbers)
+    rows-more floor olds rows new before is =
+        flat-more (page_rows floor sheets) numbers i (get_or numbers i 0) olds rows new h number-here before (is ∙ ap (λ (q : Page P K). rows ++ rows_below floor (events_in q.live)) read-here)
+
+    stamp-here : (stamp : Stamp) (b : Bool) → b ≡ list_any (is_stamped stamp) (events_in page.live) → page_has_stamp stamp sheets (get_or numbers i 0) ≡ b
+    stamp-here stamp b is = sym (is ∙ ap (λ (q : Page P K). list_any (is_stamped stamp) (events_in q.live)) read-here)
+
+    pub stamp-found : (stamp : Stamp) (b : Bool) → b ≡ list_any (is_stamped stamp) (events_in page.live) → b ≡ true → true ≡ list_any (page_has_stamp stamp sheets) numbers
+    stamp-found stamp b is so = any-found (page_has_stamp stamp sheets) numbers i (get_or numbers i 0) h number-here (stamp-here stamp b is ∙ so)
+
+    pub stamp-more : (stamp : Stamp) (b : Bool) → b ≡ list_any (is_stamped stamp) (events_in page.live) → b ≡ false → list_any (page_has_stamp stamp sheets) (take i numbers) ≡ false
+        → list_any (page_has_stamp stamp sheets) (take (i + 1) numbers) ≡ false
+    stamp-more stamp b is so none = any-more (page_has_stamp stamp sheets) numbers i (get_or numbers i 0) h number-here none (stamp-here stamp b is ∙ so)
+
   pub sum-more : (sheets : List (Page P K)) (numbers : List ℕ) (i : ℕ) (page : Page P K) → i < length numbers → AllByRecursion (λ n. n < length sheets) numbers → page ≡ get_or sheets (get_or numbers i 0) page
       → sum_by placed_nodes (flat_map (placed_of sheets) (take (i + 1) numbers)) ≡ sum_by placed_nodes (flat_map (placed_of sheets) (take i numbers)) + sum_by nodes_at page.live
   sum-more sheets numbers i page h known e =

@@ -341,7 +341,9 @@ fn append_rows_in<P: Copy, K: Copy>(
     ensures refused { IfErr result (λ fault. fault ≡ Memory) }
 {
     for slot in slots {
-        append_rows_at(slot, records, floor, rows)?;
+        let Ok(()) = append_rows_at(slot, records, floor, rows) else {
+            return Err(Fault::Memory);
+        };
     }
     Ok(())
 }

@@ -90,7 +90,9 @@ impl<P: Copy, K: Copy> Shelf<P, K> {
             return Err(Fault::Memory);
         }
         if !self.sheets[self.current as usize].takes(time) {
-            self.begin()?;
+            let Ok(()) = self.begin() else {
+                return Err(Fault::Memory);
+            };
         }
         self.take_room()
     }
@@ -245,13 +247,17 @@ impl<P: Copy, K: Copy> Shelf<P, K> {
         ensures refused { IfErr result (λ fault. fault ≡ Memory) }
     {
         let mut rows = Vec::new(alloc);
-        append_rows_in(
+        let Ok(()) = append_rows_in(
             self.sheets.as_slice(),
             self.full.as_slice(),
             floor,
             &mut rows,
-        )?;
-        self.sheets[self.current as usize].append_rows(floor, &mut rows)?;
+        ) else {
+            return Err(Fault::Memory);
+        };
+        let Ok(()) = self.sheets[self.current as usize].append_rows(floor, &mut rows) else {
+            return Err(Fault::Memory);
+        };
         Ok(rows)
     }
 
@@ -336,7 +342,9 @@ fn append_rows_in<P: Copy, K: Copy>(
     ensures refused { IfErr result (λ fault. fault ≡ Memory) }
 {
     for number in numbers {
-        sheets[*number as usize].append_rows(floor, rows)?;
+        let Ok(()) = sheets[*number as usize].append_rows(floor, rows) else {
+            return Err(Fault::Memory);
+        };
     }
     Ok(())
 }

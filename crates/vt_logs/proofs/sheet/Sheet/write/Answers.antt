@@ -1,8 +1,17 @@
 use Rattle.std.proofs.Common.{◌≡◌, ◌≤◌, [], ◌∷◌, ◌++◌, length, true, false, refl, sym, ◌∙◌, ap, subst}
 use Rattle.vt_logs.specs.declared.slot.Slot.{Slot}
-use Rattle.vt_logs.specs.inside.Sheets.{Page, live_in, noted_event}
-use Rattle.vt_logs.proofs.SheetLemmas.{live-written, sheet-written, sheet-along, dated-wider, earlier-both, fits-short, fits-behind}
+use Rattle.std.specs.List.{sum_by}
+use Rattle.vt_logs.specs.inside.Sheets.{Page, live_in, nodes_at, noted_event}
+use Rattle.vt_logs.proofs.SheetLemmas.{live-written, sheet-written, sheet-along, dated-wider, earlier-both, fits-short, fits-behind, fits-sends, fits-records, fits-one, fits-needs}
 use Rattle.vt_logs.proofs.sheet.Sheet.write.Goals as goal
+
+pub overflow_add-self : goal.overflow_add-self
+overflow_add-self g c = fits-one (length c.args.sends.now) c.requires.few_sends
+
+pub overflow_add-self-2 : goal.overflow_add-self-2
+overflow_add-self-2 g c =
+    let few = subst (λ (v : Page _ _). sum_by nodes_at v.live ≤ 4611686018427387904) (sym c.self.view_is) c.requires.few_nodes in
+    fits-needs c.self.inside.needs _ (length c.args.sends.now) c.self.invariant.0.counted few c.requires.few_sends
 
 pub overflow_cast-index : goal.overflow_cast-index
 overflow_cast-index g c =
@@ -18,6 +27,12 @@ pub overflow_cast-len-2 : goal.overflow_cast-len-2
 overflow_cast-len-2 g c =
     let room = c.self.invariant.1 (ap (λ (v : Page _ _). v.has_room) c.self.view_is ∙ c.requires.room) in
     fits-short c.len-2.result c.self.inside.records.len c.len-2.ensures room.records_named
+
+pub overflow_cast-sends : goal.overflow_cast-sends
+overflow_cast-sends g c = fits-sends (length c.args.sends.now) c.requires.few_sends
+
+pub overflow_cast-records : goal.overflow_cast-records
+overflow_cast-records g c = fits-records (length c.args.records.now) c.requires.few_records
 
 pub push_reserved-requires : goal.push_reserved-requires
 push_reserved-requires g c =

@@ -1,9 +1,23 @@
-use Rattle.std.proofs.Common.{ℕ, [], ◌∷◌, ◌++◌, length, ◌∙◌, ap}
+use Rattle.std.proofs.Common.{refl, ℕ, [], ◌∷◌, ◌++◌, length, ◌∙◌, ap}
 use Rattle.std.proofs.lemmas.List.{length_push, get_or_past}
 use Rattle.vt_logs.specs.inside.Sheets.{Page}
 use Rattle.vt_logs.specs.inside.Shelves.{Shelved, placed_on, blank_page}
 use Rattle.vt_logs.proofs.ShelfLemmas.{page-more, known-added, apart-added, shelf-begun, placed-begun, shelf-along, shelf-named, itself}
 use Rattle.vt_logs.proofs.shelf.Shelf.add.Goals as goal
+
+pub invariant_of-self : goal.invariant_of-self
+invariant_of-self g c = shelf-along refl refl c.in_default.ensures.items c.self.invariant
+
+pub returns-in_default-clause-same : goal.returns-in_default-clause-same
+returns-in_default-clause-same g c = ap (λ (v : Shelved _ _). v.placed) c.self.view_is
+
+pub invariant_of-self-in_default-reserve : goal.invariant_of-self-in_default-reserve
+invariant_of-self-in_default-reserve g c = shelf-along refl c.in_default-reserve.ensures.items c.in-Ok.ensures.items c.self.invariant
+
+pub returns-in_default-reserve-clause-same : goal.returns-in_default-reserve-clause-same
+returns-in_default-reserve-clause-same g c =
+    let i = c.self.inside in
+    (λ j. placed_on i.sheets.items (c.in_default-reserve.ensures.items j) i.current) ∙ ap (λ (v : Shelved _ _). v.placed) c.self.view_is
 
 pub invariant_of-self-2 : goal.invariant_of-self-2
 invariant_of-self-2 g c =

@@ -1,9 +1,20 @@
-use Rattle.std.proofs.Common.{◌<◌, [], ◌∷◌, ◌++◌, slice_set, refl, sym, ◌∙◌, ap, subst}
+use Rattle.std.proofs.Common.{◌<◌, [], ◌∷◌, ◌++◌, slice_set, refl, sym, ◌∙◌, ap, subst, append-nil}
 use Rattle.std.proofs.lemmas.List.{length-set}
 use Rattle.vt_logs.specs.inside.Sheets.{Page}
 use Rattle.vt_logs.specs.inside.Shelves.{Shelved, placed_on}
 use Rattle.vt_logs.proofs.ShelfLemmas.{live-kept, page-same, spare-known, spare-empty, known-begun, apart-begun, shelf-begun, placed-begun, shelf-along}
 use Rattle.vt_logs.proofs.shelf.Shelf.begin.Goals as goal
+
+pub invariant_of-self : goal.invariant_of-self
+invariant_of-self g c = shelf-along refl c.in_default.ensures.items refl c.self.invariant
+
+pub returns-in_default-clause-same : goal.returns-in_default-clause-same
+returns-in_default-clause-same g c =
+    let i = c.self.inside in
+    (λ j. placed_on i.sheets.items (c.in_default.ensures.items j) i.current) ∙ ap (λ (v : Shelved _ _). v.placed) c.self.view_is
+
+pub invariant_of-self-in_default-pop : goal.invariant_of-self-in_default-pop
+invariant_of-self-in_default-pop g c = shelf-along refl c.in-Ok.ensures.items (sym (c.in_default-pop.ensures.items ∙ append-nil c.pop.new.self.items)) c.self.invariant
 
 pub index_mut-requires : goal.index_mut-requires
 index_mut-requires g c =

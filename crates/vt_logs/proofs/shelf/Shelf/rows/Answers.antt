@@ -23,7 +23,7 @@ returns-clause-rows g c =
     let i = c.self.inside in
     let known = current-known i.sheets.items i.full.items i.current i.spare.items i.needs c.self.invariant in
     let read = page-read i.sheets.items i.current c.index.result.now known c.index.ensures in
-    c.in_ok-append_rows.ensures.rows
-    ∙ (λ j. c.in_ok-append_rows_in.ensures.rows j ++ rows_below c.args.floor (events_in (read j).live))
+    c.in-Ok-append_rows.ensures.rows
+    ∙ (λ j. c.in-Ok.ensures.rows j ++ rows_below c.args.floor (events_in (read j).live))
     ∙ (λ j. (c.new-rows.ensures.items j ++ flat_map (page_rows c.args.floor (c.as_slice.ensures.value j)) (c.as_slice-2.ensures.value j)) ++ page_rows c.args.floor i.sheets.items i.current)
     ∙ rows-total i.sheets.items i.full.items i.current c.args.floor ∙ ap (λ (v : Shelved _ _). rows_below c.args.floor (placed_events v.placed)) c.self.view_is
