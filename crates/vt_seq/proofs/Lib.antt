@@ -6,3 +6,4 @@ pub mod CalendarLemmas
 pub mod HeapLemmas
 pub mod SorterLemmas
 pub mod ProgressLemmas
+pub mod PlainLemmas

@@ -1,4 +1,4 @@
-use Rattle.std.proofs.Common.{◌≡◌, ℕ, suc, ◌+◌, ◌≤◌, ◌∙◌, ◌++◌, List, ◌∷◌, drop, length, sym, ap, subst, arith}
+use Rattle.std.proofs.Common.{◌≡◌, ℕ, suc, ◌+◌, ◌≤◌, ◌∙◌, ◌++◌, List, ◌∷◌, drop, length, refl, sym, ap, subst, arith}
 use Rattle.std.specs.BinaryHeap.{heap_items, heap_len, heap_capacity}
 use Rattle.std.proofs.lemmas.List.{drop_more, drop_all}
 use Rattle.vt_model.specs.declared.sending.Sent.{Sent}
@@ -58,3 +58,12 @@ returns-clause-queue g c =
     let near = calendar_entries c.loop-event.calendar.present.items c.loop-event.calendar.days in
     let settled = calendar_entries c.settle.new.self.present.items c.settle.new.self.days in
     (near-reordered near (heap_items c.loop-event.far) settled c.loop-event.invariant.queue c.settle.ensures.same).0
+
+pub loop-event-init : goal.loop-event-init
+loop-event-init g c = record { room = c.requires.room; queue = c.requires.queue; fresh = c.requires.new; base = (refl, refl); same = refl }
+
+pub returns-clause-settled : goal.returns-clause-settled
+returns-clause-settled g c = c.settle.ensures.settled
+
+pub returns-clause-base : goal.returns-clause-base
+returns-clause-base g c = (c.settle.ensures.base.0 ∙ c.loop-event.invariant.base.0, c.settle.ensures.base.1 ∙ c.loop-event.invariant.base.1)

@@ -1,9 +1,10 @@
-use Rattle.std.proofs.Common.{◌≡◌, ◌<◌, ◌∙◌, List, [], ◌∷◌, ◌++◌, Bool, true, false, map, slice_set, Some, length, IfOk, IfErr, sym, ap, subst, rules, Vec, Global}
+use Rattle.std.proofs.Common.{◌≡◌, ◌<◌, ◌∙◌, List, [], ◌∷◌, ◌++◌, Bool, true, map, slice_set, Some, length, IfOk, IfErr, sym, ap, subst, rules, Vec, Global}
 use Rattle.std.proofs.lemmas.List.{map-set}
 use Rattle.std.proofs.lemmas.Option.{same_Some}
 use Rattle.vt_seq.specs.declared.entry.Entry.{Entry}
 use Rattle.vt_seq.specs.inside.Days.{is_used, IsPut}
 use Rattle.vt_seq.proofs.CalendarLemmas.{day-there, filled-used, items_of, put-more, put-new}
+use Rattle.vt_seq.proofs.PlainLemmas.{true_false}
 use Rattle.vt_seq.proofs.days.Days.put.Given.{Over}
 use Rattle.vt_seq.proofs.days.Days.put.Goals as goal
 
@@ -43,7 +44,7 @@ first g c =
 
 pub invariant_of-self : goal.invariant_of-self
 invariant_of-self g c =
-    (c.self.invariant.0 ∙ sym (more g c).0, (λ clear. let both : false ≡ true = clear in absurd (cc)), c.self.invariant.2)
+    (c.self.invariant.0 ∙ sym (more g c).0, (λ clear. true_false (sym clear)), c.self.invariant.2)
 
 pub returns-then-not-is_empty-clause-put : goal.returns-then-not-is_empty-clause-put
 returns-then-not-is_empty-clause-put g c =
@@ -57,7 +58,7 @@ returns-then-not-is_empty-clause-kept g c =
 
 pub invariant_of-self-2 : goal.invariant_of-self-2
 invariant_of-self-2 g c =
-    (c.set.ensures ∙ ap (λ (ms : List Bool). slice_set ms c.args.day true) c.self.invariant.0 ∙ (first g c).0, (λ clear. let both : false ≡ true = clear in absurd (cc)), c.self.invariant.2)
+    (c.set.ensures ∙ ap (λ (ms : List Bool). slice_set ms c.args.day true) c.self.invariant.0 ∙ (first g c).0, (λ clear. true_false (sym clear)), c.self.invariant.2)
 
 pub returns-clause-put : goal.returns-clause-put
 returns-clause-put g c =

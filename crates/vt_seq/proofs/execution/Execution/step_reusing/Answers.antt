@@ -1,4 +1,4 @@
-use Rattle.std.proofs.Common.{rules, ◌≡◌, ℕ, suc, ◌≤◌, ◌<◌, ◌↔◌, ◌∙◌, IsTrue, [], length, IfOk, IfErr, ap, subst, arith}
+use Rattle.std.proofs.Common.{◌≡◌, ℕ, suc, ◌≤◌, ◌<◌, ◌↔◌, ◌∙◌, IsTrue, [], length, IfOk, IfErr, ap, subst}
 use Rattle.std.proofs.lemmas.Result.{IfOk-weaker}
 use Rattle.vt_model.specs.promise.Simulation.{simulation_of}
 use Rattle.vt_model.specs.declared.settings.Config.{Config}
@@ -11,6 +11,7 @@ use Rattle.vt_seq.specs.inside.Standing.{Standing, IsAt}
 use Rattle.vt_seq.proofs.ProgressLemmas.{seen-on_way, seen, stands-after, after-stands, if_ok-both, if_err-both, seen_same}
 use Rattle.vt_seq.proofs.StepLemmas.{AreCounted, counted_at, none_pending}
 use Rattle.vt_seq.proofs.GivenLemmas.{whole_records}
+use Rattle.vt_seq.proofs.PlainLemmas.{at_least, items_count}
 use Rattle.vt_seq.proofs.execution.Execution.step_reusing.Goals as goal
 
 pub step-requires-send-M-Payload : goal.step-requires-send-M-Payload
@@ -33,7 +34,7 @@ returns g c = record {
       let sim = simulation_of (g.M.Model.handlers e.model.now) e.config in
       let f = c.step.new.self in
       let later = seen sim f.model.now f.config f.pending f.processes.items in
-      let there : sim.lps ≤ length f.processes.items = search (rules, arith, f.all_there, c.step.ensures.config) in
+      let there : sim.lps ≤ length f.processes.items = at_least (items_count f.processes f.all_there ∙ ap (λ (d : Config). d.lps) c.step.ensures.config) in
       subst (λ (v : Standing _ _ _). (n : ℕ) → IsAt (simulation_of (g.M.Model.handlers v.model) v.config) n v → IfOk c.step.result (λ more. IsAt (simulation_of (g.M.Model.handlers v.model) v.config) (suc n) later))
       c.self.view_is
       (λ n is. IfOk-weaker c.step.result _ _ (λ more st. stands-after sim f.model.now f.config (suc n) f.pending f.processes.items there st)
@@ -58,7 +59,7 @@ returns g c = record {
       let e = c.self.inside.engine in
       let sim = simulation_of (g.M.Model.handlers e.model.now) e.config in
       let f = c.step.new.self in
-      let there : length f.processes.items ≡ sim.lps = search (rules, arith, f.all_there, c.step.ensures.config) in
+      let there : length f.processes.items ≡ sim.lps = items_count f.processes f.all_there ∙ ap (λ (d : Config). d.lps) c.step.ensures.config in
       let numbered : AreCounted sim.lps f.processes.items = subst (λ (lps : ℕ). AreCounted lps f.processes.items) (ap (λ (d : Config). d.lps) c.step.ensures.config) f.numbered in
       let lawful = lawful_of (g.M.Model.handlers e.model.now) e.config (g.met.M.Model.start_within e.model.now) (g.met.M.Model.forward_within e.model.now) in
       subst (λ (v : Standing _ _ _). (n : ℕ) → IsAt (simulation_of (g.M.Model.handlers v.model) v.config) n v → IfOk c.step.result (λ more. IsCounted (simulation_of (g.M.Model.handlers v.model) v.config) (suc n)))
