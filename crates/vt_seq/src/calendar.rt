@@ -46,8 +46,12 @@ impl<P: Copy> Calendar<P> {
         ensures window { IfOk result (λ calendar. (calendar.base ≡ 0) × (calendar.next ≡ 0)) }
         ensures refused { IfErr result (λ fault. fault ≡ Memory) }
     {
-        let days = Days::new(alloc)?;
-        let sorter = Sorter::new(alloc, lps)?;
+        let Ok(days) = Days::new(alloc) else {
+            return Err(Fault::Memory);
+        };
+        let Ok(sorter) = Sorter::new(alloc, lps) else {
+            return Err(Fault::Memory);
+        };
         Ok(Calendar {
             scale: 0,
             base: 0,

@@ -44,16 +44,15 @@ impl<'m, M: EventModel> Engine<'m, M> {
         ensures stands { IfOk result (λ run. StandsAt (simulation_of (M.handlers model.now) config) 0 run.pending run.processes.items) }
         ensures refused { IfErr result (λ fault. fault ≡ Memory) }
     {
-        let mut pending = PendingEvents::new(alloc, config.lps)?;
+        let Ok(mut pending) = PendingEvents::new(alloc, config.lps) else {
+            return Err(Fault::Memory);
+        };
         let Ok(mut processes) = Vec::with_capacity(alloc, config.lps as usize) else {
             return Err(Fault::Memory);
         };
-        for p in 0..config.lps {
-            let process = start_process(model, config, p, &mut pending)?;
-            let Ok(()) = processes.push(process) else {
-                return Err(Fault::Memory);
-            };
-        }
+        let Ok(()) = start_all(model, config, &mut pending, &mut processes) else {
+            return Err(Fault::Memory);
+        };
         Ok(Engine {
             model,
             config,
@@ -146,4 +145,32 @@ impl<'m, M: EventModel> Engine<'m, M> {
         }
         Ok(values)
     }
+}
+
+/// Starts every process, and puts it behind the others: the sends of all starts are pending then.
+///
+/// [`Fault::Memory`]: memory was refused.
+fn start_all<M: EventModel>(
+    model: &M,
+    config: Config,
+    pending: &mut PendingEvents<M::Payload>,
+    processes: &mut Vec<Process<M>>,
+) -> Result<(), Fault>
+    requires no_pending { pending.old ≡ [] }
+    requires no_processes { processes.old.items ≡ [] }
+    ensures stands { IfOk result (λ _. StandsAt (simulation_of (M.handlers model.now) config) 0 pending.new processes.new.items) }
+    ensures all_there { IfOk result (λ _. vec_len processes.new ≡ config.lps) }
+    ensures numbered { IfOk result (λ _. (p : ℕ) (d : _) → p < config.lps → (slice_index_or processes.new.items p d).number ≤ MAX_COUNT) }
+    ensures streams { IfOk result (λ _. (p : ℕ) (d : _) → p < config.lps → IsProcessStream config.seed p (slice_index_or processes.new.items p d).stream) }
+    ensures refused { IfErr result (λ fault. fault ≡ Memory) }
+{
+    for p in 0..config.lps {
+        let Ok(process) = start_process(model, config, p, pending) else {
+            return Err(Fault::Memory);
+        };
+        let Ok(()) = processes.push(process) else {
+            return Err(Fault::Memory);
+        };
+    }
+    Ok(())
 }

@@ -56,7 +56,9 @@ impl<'m, M: EventModel> Execution<'m, M> {
         ensures opening { IfOk result (λ run. IsAt (simulation_of (M.handlers model.now) config) 0 run) }
         ensures refused { IfErr result (λ fault. fault ≡ Memory) }
     {
-        let engine = Engine::new(alloc, model, config)?;
+        let Ok(engine) = Engine::new(alloc, model, config) else {
+            return Err(Fault::Memory);
+        };
         Ok(Execution { engine })
     }
 

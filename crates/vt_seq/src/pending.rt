@@ -50,7 +50,9 @@ impl<P: Copy> PendingEvents<P> {
         ensures empty { IfOk result (λ pending. pending ≡ []) }
         ensures refused { IfErr result (λ fault. fault ≡ Memory) }
     {
-        let calendar = Calendar::new(alloc, lps)?;
+        let Ok(calendar) = Calendar::new(alloc, lps) else {
+            return Err(Fault::Memory);
+        };
         Ok(PendingEvents {
             calendar,
             far: BinaryHeap::new(alloc),

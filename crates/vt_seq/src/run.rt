@@ -46,7 +46,9 @@ impl<'m, M: EventModel> Sequential<'m, M> {
         ensures opening { IfOk result (λ run. IsAfter (simulation_of (M.handlers model.now) config) 0 run) }
         ensures refused { IfErr result (λ fault. fault ≡ Fault.Memory) }
     {
-        let execution = Execution::new(alloc, model, config)?;
+        let Ok(execution) = Execution::new(alloc, model, config) else {
+            return Err(Fault::Memory);
+        };
         let records = Vec::new(alloc);
         Ok(Sequential { execution, records })
     }

@@ -3,7 +3,7 @@ use Rattle.vt_model.specs.promise.Simulation.{simulation_of}
 use Rattle.vt_key.specs.declared.limits.TheConstants.{MAX_COUNT}
 use Rattle.vt_model.specs.inside.Process.{IsProcessStream}
 use Rattle.vt_seq.proofs.StartLemmas.{AllStarted}
-use Rattle.vt_seq.proofs.engine.Engine.new.Given as goal
+use Rattle.vt_seq.proofs.engine.start_all.Given as goal
 
 abbrev pub invariant-loop-p : goal.invariant-loop-p
 invariant-loop-p g l = record {
