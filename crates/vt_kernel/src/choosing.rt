@@ -24,7 +24,9 @@ impl<M: EventModel> Kernel<M> {
         ensures lawful { (handlers : Handlers _ _ _) (part : Part _) → StandsFor handlers self.now part → IfSome result (λ p. (after : Part _) × (local_step (simulation_of handlers self.now.config) self.now.worker (step.Execute p) part ≡ Some after)) }
         ensures unlawful { (handlers : Handlers _ _ _) (part : Part _) → StandsFor handlers self.now part → IfNone result ((p : ℕ) → local_step (simulation_of handlers self.now.config) self.now.worker (step.Execute p) part ≡ None) }
     {
-        let index = first_ready(&self.processes)?;
+        let Some(index) = first_ready(&self.processes) else {
+            return None;
+        };
         Some(index as u32 * self.config.workers + self.worker)
     }
 }

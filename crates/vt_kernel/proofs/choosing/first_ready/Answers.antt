@@ -3,7 +3,7 @@ use Rattle.std.proofs.lemmas.List.{take_more, take_all, map-append, length-map, 
 use Rattle.std.proofs.lemmas.Option.{slice_get_read, get_or_from_slice_get}
 use Rattle.vt_key.specs.declared.order.Rank.{Rank}
 use Rattle.vt_lp.specs.inside.Held.{HeldProcess}
-use Rattle.vt_kernel.specs.inside.Choosing.{is_earlier, ready_of}
+use Rattle.vt_kernel.specs.inside.Choosing.{IsLeast, is_earlier, ready_of}
 use Rattle.vt_kernel.proofs.ChoosingLemmas.{IsLeastSoFar, taken, left}
 use Rattle.vt_kernel.proofs.choosing.first_ready.Goals.{then-is_earlier, else-is_earlier}
 use Rattle.vt_kernel.proofs.choosing.first_ready.Goals as goal
@@ -42,3 +42,14 @@ returns-in-None-clause-nothing g c =
     let index = c.loop-i.index in
     subst (λ (ps : List (HeldProcess _ _ _)). IsLeastSoFar (map ready_of ps) None index) (take_all i all c.loop-i-test.false)
     (subst (λ (o : Option Rank). IsLeastSoFar (map ready_of (take i all)) o index) c.in-None.is c.loop-i.invariant)
+
+pub loop-i-init : goal.loop-i-init
+loop-i-init g c = λ i rank at. (let wrong : None ≡ Some (Some rank) = at in cc)
+
+pub returns-in-Some-clause-least : goal.returns-in-Some-clause-least
+returns-in-Some-clause-least g c =
+    let all = c.args.processes.now in
+    let i = c.loop-i.i in
+    let index = c.loop-i.index in
+    let least : IsLeastSoFar (map ready_of (take i all)) (Some c.in-Some.field-0) index = subst (λ (o : Option Rank). IsLeastSoFar (map ready_of (take i all)) o index) c.in-Some.is c.loop-i.invariant in
+    subst (λ (ps : List (HeldProcess _ _ _)). IsLeast (map ready_of ps) index) (take_all i all c.loop-i-test.false) least.0

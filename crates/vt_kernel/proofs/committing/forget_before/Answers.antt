@@ -1,8 +1,16 @@
-use Rattle.std.proofs.Common.{◌≡◌, ◌<◌, Some, length, slice_get, slice_index_or, sym, subst, arith}
+use Rattle.std.proofs.Common.{◌≡◌, ◌<◌, Some, length, slice_get, slice_index_or, refl, sym, subst, arith}
 use Rattle.std.proofs.lemmas.Option.{slice_get-get_or}
 use Rattle.vt_lp.specs.inside.Held.{HeldProcess}
 use Rattle.vt_kernel.proofs.CommitLemmas.{forgotten-more}
 use Rattle.vt_kernel.proofs.committing.forget_before.Goals as goal
+
+pub loop-process-init : goal.loop-process-init
+loop-process-init g c = record {
+  count = refl;
+  within = omega arith;
+  forgotten = λ k d before. absurd (omega arith);
+  left = λ k d more. refl;
+}
 
 pub loop-process-preserved : goal.loop-process-preserved
 loop-process-preserved g c =

@@ -1,10 +1,10 @@
 use Rattle.std.proofs.Common.{◌∙◌, ◌+◌, ◌∷◌, List, map, drop, sym, ap}
-use Rattle.std.proofs.lemmas.List.{drop_more}
+use Rattle.std.proofs.lemmas.List.{drop_all, drop_more}
 use Rattle.vt_key.specs.promise.Times.{Time, earlier}
 use Rattle.vt_key.specs.declared.letter.Letter.{Letter}
 use Rattle.vt_key.specs.declared.letter.Mail.{Mail}
 use Rattle.vt_steps.specs.promise.Letters.{letter_time, least_time}
-use Rattle.vt_kernel.proofs.TimeLemmas.{same_low, earlier_assoc, earlier-end, earlier_low}
+use Rattle.vt_kernel.proofs.TimeLemmas.{same_low, earlier_assoc, earlier_first, earlier-end, earlier_low}
 use Rattle.vt_kernel.proofs.cutting.least_of_mail.Goals as goal
 
 pub loop-mail-init : goal.loop-mail-init
@@ -29,3 +29,11 @@ loop-mail-preserved g c =
           ∙ ap (λ (ms : List (Mail _)). earlier c.loop-mail.least (least_time end (letters ms))) (sym more)
           ∙ c.loop-mail.invariant.least;
     }
+
+pub returns : goal.returns
+returns g c =
+    let end = c.args.end in
+    let least = c.loop-mail.least in
+    sym (earlier_first least end c.loop-mail.invariant.low)
+    ∙ ap (λ (ms : List (Mail _)). earlier least (least_time end (map (λ (m : Mail _). m.letter) ms))) (sym (drop_all c.loop-mail.mail-index c.args.mails.now c.loop-mail-test.false))
+    ∙ c.loop-mail.invariant.least

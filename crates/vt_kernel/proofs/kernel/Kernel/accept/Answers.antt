@@ -1,4 +1,4 @@
-use Rattle.std.proofs.Common.{rules, ◌≡◌, ◌≤◌, ◌∙◌, length, slice_get, slice_set, None, Some, List, [], sym, ap, subst, refl, true, false}
+use Rattle.std.proofs.Common.{rules, ◌≡◌, ◌≤◌, ◌∙◌, ◌⊎◌, inl, inr, length, slice_get, slice_set, None, Some, List, [], sym, ap, subst, refl, true, false}
 use Rattle.std.proofs.lemmas.Option.{slice_get_past}
 use Rattle.vt_key.specs.promise.Times.{TimeBefore}
 use Rattle.vt_key.specs.declared.fault.Fault.{Fault}
@@ -119,3 +119,41 @@ returns-clause-done g c handlers part s =
     (subst (λ (ms : List (Mail _)). IsDone handlers (view ms) (local_step (simulation_of handlers i.config) i.worker (step.Accept i.worker c.args.i) part)) (sym c.remove.ensures.items)
     (accept-done handlers (view_of i) c.self.invariant.own_processes part (stands_along c.self.view_is handlers part s) c.args.i new mail.0 mail.1.own (there g at.After-index_mut) (same.0, same.1)
     (λ process st. subst (λ (l : Letter _). ProcessIsDone handlers new (accept_process l process) [] [] 0 0) c.in-Ok.ensures.made (c.in_default-accept.ensures.done handlers process st))))
+
+-- what stays, and which faults there are
+pub returns-in_default-clause-kept : goal.returns-in_default-clause-kept
+returns-in_default-clause-kept g c = refl
+
+pub returns-in_default-new-clause-kept : goal.returns-in_default-new-clause-kept
+returns-in_default-new-clause-kept g c = refl
+
+pub returns-in-Err-clause-kept : goal.returns-in-Err-clause-kept
+returns-in-Err-clause-kept g c =
+    let i = c.self.inside in
+    let same = written-same i.processes.items c.index-index.result c.index_mut.result.now c.accept.new.self (there g (goal.at.returns-in-Err-clause-kept g c).After-index_mut) c.in-Err.ensures.kept.2 in
+    (λ j. record (view_of i) { processes = same j }) ∙ c.self.view_is
+
+pub returns-in_default-new-clause-faults : goal.returns-in_default-new-clause-faults
+returns-in_default-new-clause-faults g c =
+    let q = c.index.result.now in
+    let letter = c.in-Some.mail.now.letter in
+    let told = c.unmade.ensures in
+    elim (holds_letter q.pending q.waiting q.past letter.sign letter.event.rank) as (λ b. holds_letter q.pending q.waiting q.past letter.sign letter.event.rank ≡ b → (c.unmade.result ≡ NotLawful) ⊎ (c.unmade.result ≡ Memory)) [
+      | true ↦ λ is. inl (told.held is)
+      | false ↦ λ is. inr (told.new is)
+    ] refl
+
+pub returns-in-Err-clause-faults : goal.returns-in-Err-clause-faults
+returns-in-Err-clause-faults g c = inl c.in-Err.ensures.kept.0
+
+pub returns-in_default-clause-same : goal.returns-in_default-clause-same
+returns-in_default-clause-same g c = (refl, refl)
+
+pub returns-in_default-new-clause-same : goal.returns-in_default-new-clause-same
+returns-in_default-new-clause-same g c = (refl, refl)
+
+pub returns-in-Err-clause-same : goal.returns-in-Err-clause-same
+returns-in-Err-clause-same g c = (ap (λ (v : HeldWorker _ _ _). v.worker) c.self.view_is, ap (λ (v : HeldWorker _ _ _). v.config) c.self.view_is)
+
+pub returns-clause-same : goal.returns-clause-same
+returns-clause-same g c = (ap (λ (v : HeldWorker _ _ _). v.worker) c.self.view_is, ap (λ (v : HeldWorker _ _ _). v.config) c.self.view_is)

@@ -109,3 +109,19 @@ returns-clause-done g c handlers part s =
     (subst (λ (ls : List (Letter _)). IsDone handlers (view ls) (local_step (simulation_of handlers i.config) i.worker (step.Home i.worker) part)) (sym (left g at.After-index-index))
     (home-done handlers (view_of i) c.self.invariant.own_processes part (stands_along c.self.view_is handlers part s) new letter.0 letter.1.own (there g at.After-index_mut) (same.0, same.1)
     (λ process st. subst (λ (l : Letter _). ProcessIsDone handlers new (accept_process l process) [] [] 0 0) (sym c.get.ensures) (c.in_default-accept.ensures.done handlers process st))))
+
+pub returns-in-Err-clause-kept : goal.returns-in-Err-clause-kept
+returns-in-Err-clause-kept g c =
+    let i = c.self.inside in
+    let same = written-same i.processes.items c.index-index.result c.index_mut.result.now c.accept.new.self (there g (goal.at.returns-in-Err-clause-kept g c).After-index_mut) c.in-Err.ensures.kept.2 in
+    let back = c.put_back.ensures ∙ c.of-before.ensures in
+    (c.in-Err.ensures.kept.0, (λ j. record (view_of i) { processes = same j; outbox = (back j).letters }) ∙ c.self.view_is)
+
+pub returns-in_default-clause-same : goal.returns-in_default-clause-same
+returns-in_default-clause-same g c = (ap (λ (v : HeldWorker _ _ _). v.worker) c.self.view_is, ap (λ (v : HeldWorker _ _ _). v.config) c.self.view_is)
+
+pub returns-in-Err-clause-same : goal.returns-in-Err-clause-same
+returns-in-Err-clause-same g c = (ap (λ (v : HeldWorker _ _ _). v.worker) c.self.view_is, ap (λ (v : HeldWorker _ _ _). v.config) c.self.view_is)
+
+pub returns-clause-same : goal.returns-clause-same
+returns-clause-same g c = (ap (λ (v : HeldWorker _ _ _). v.worker) c.self.view_is, ap (λ (v : HeldWorker _ _ _). v.config) c.self.view_is)
