@@ -48,9 +48,10 @@ impl<M: EventModel> Pool<M> {
         let Some(letter) = self.calendar.take_first() else {
             return Ok(false);
         };
-        let event = letter.get().event;
+        let first = letter.get();
+        let event = first.event;
         let event = &event;
-        let has_room = make_room(&mut self.log, &mut self.kept, letter.get());
+        let has_room = make_room(&mut self.log, &mut self.kept, first);
         let index = self.config.index(event.dest);
         let process = &mut self.processes[index as usize];
         let config = self.config;
@@ -65,19 +66,22 @@ impl<M: EventModel> Pool<M> {
         self.reached = later(self.reached, event.rank.key.when());
         let serial = self.serial;
         self.serial = write(&mut self.log, index, entry, out);
+        let may_go = self.waiting.is_empty();
+        let sends = out.sends();
+        let most = &mut self.heard[self.worker as usize];
         deliver(
             &mut self.kept,
             &mut self.calendar,
             &mut self.outbox,
-            &mut self.heard[self.worker as usize],
+            most,
             self.reached,
-            self.waiting.is_empty(),
+            may_go,
             self.config,
             self.worker,
             serial,
-            out.sends(),
+            sends,
         );
-        self.hints.count_event(out.sends().len());
+        self.hints.count_event(sends.len());
         self.home_left(model);
         Ok(true)
     }

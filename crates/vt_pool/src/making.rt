@@ -53,16 +53,11 @@ fn open<M: EventModel>(alloc: Global, model: &M, config: Config, w: u32) -> Resu
     ensures refused { IfErr result (λ fault. fault ≡ Memory) }
 {
     let mut outbox = Outbox::new(alloc, config)?;
-    let Ok(calendar) = Calendar::new(alloc, config.lps) else {
-        return Err(Fault::Memory);
-    };
     let mut serial = 0;
     let processes = start_all(alloc, model, config, w, &mut serial, &mut outbox)?;
-    let Ok(log) = Log::new(alloc, processes.len() as u32) else {
-        return Err(Fault::Memory);
-    };
-    let Ok(heard) = vec![in alloc; 0; config.workers as usize] else {
-        return Err(Fault::Memory);
+    let (heard, log, calendar) = match stores(alloc, config, processes.len() as u32) {
+        Ok(empty) => empty,
+        Err(_) => return Err(Fault::Memory),
     };
     Ok(Pool {
         config,
@@ -78,6 +73,30 @@ fn open<M: EventModel>(alloc: Global, model: &M, config: Config, w: u32) -> Resu
         serial,
         hints: Hints::new(),
     })
+}
+
+/// What notes of each worker the greatest serial that was ever pending, a log of so many processes, and a calendar, all without anything in them.
+// It is apart from `open`, so that few values are there at each refusal.
+fn stores<P: Copy, K: Copy>(
+    alloc: Global,
+    config: Config,
+    count: u32,
+) -> Result<(Vec<u64>, Log<P, K>, Calendar<P>), Fault>
+    ensures heard { IfOk result (λ s. length s.0.items ≡ config.workers) }
+    ensures log { IfOk result (λ s. (s.1.events ≡ []) × (s.1.processes ≡ count)) }
+    ensures calendar { IfOk result (λ s. s.2 ≡ []) }
+    ensures refused { IfErr result (λ fault. fault ≡ Memory) }
+{
+    let Ok(heard) = vec![in alloc; 0; config.workers as usize] else {
+        return Err(Fault::Memory);
+    };
+    let Ok(log) = Log::new(alloc, count) else {
+        return Err(Fault::Memory);
+    };
+    let Ok(calendar) = Calendar::new(alloc, config.lps) else {
+        return Err(Fault::Memory);
+    };
+    Ok((heard, log, calendar))
 }
 
 /// Starts the processes of worker `w` in rising order. What they send goes to the back of the outbox, with serials from `serial` on.

@@ -1,6 +1,7 @@
-use Rattle.std.proofs.Common.{rules, ◌≡◌, ◌∙◌, ◌+◌, ◌*◌, ◌/◌, ◌<◌, ◌≤◌, ◌++◌, true, false, List, [], ◌∷◌, length, map, sym, ap, subst, arith, inl, inr, refl, IfSome, Some, slice_get, slice_set}
+use Rattle.std.proofs.Common.{rules, ◌≡◌, ◌∙◌, ◌+◌, ◌*◌, ◌/◌, ◌<◌, ◌≤◌, ◌++◌, List, [], ◌∷◌, length, map, sym, ap, subst, arith, inl, inr, refl, IfSome, Some, slice_get, slice_set}
 use Rattle.std.specs.List.{sum_by, AllByRecursion}
 use Rattle.std.proofs.Math.ListN.{length-set}
+use Rattle.std.proofs.lemmas.Bool.{true≢false, false≢true}
 use Rattle.std.proofs.lemmas.List.{length-map, map-append}
 use Rattle.vt_key.specs.promise.Times.{TimeAtMost}
 use Rattle.vt_key.specs.inside.Order.{RankBefore}
@@ -41,7 +42,7 @@ use Rattle.vt_pool.proofs.PoolLemmas.{streams-get}
 use Rattle.vt_pool.proofs.DeliveryLemmas.{IsWellDelivered, delivered, messages-of}
 use Rattle.vt_pool.proofs.ExecutionLemmas.{pool-executed, pool-taken_back, can-be, not-executed, has-executed, executed-leads, stays-leads, nodes-logged, IsTaken, taken}
 use Rattle.vt_pool.proofs.pool.Pool.execute_next.Given.{Over}
-use Rattle.vt_pool.proofs.pool.Pool.execute_next.Goals.{After-index-index, After-index_mut-process, After-put, After-keep, After-write-self-inside, After-index_mut, After-deliver}
+use Rattle.vt_pool.proofs.pool.Pool.execute_next.Goals.{After-index-index, After-index_mut-process, After-put, After-keep, After-write-self-inside, After-index_mut-most, After-deliver}
 use Rattle.vt_pool.proofs.pool.Pool.execute_next.Goals as goal
 
 -- where a process stands
@@ -65,7 +66,7 @@ facts g c =
     let i = c.self.inside in
     taken c.in-Some.letter c.take_first.new.self c.index-index.result c.self.invariant.0.known c.self.invariant.0.inside
     (subst (λ (v : HeldPool _ _ _). AreSettled v.stock) (sym c.self.view_is) c.requires.settled) c.in-Some.ensures
-    (c.index-index.ensures ∙ ap (λ (l : Letter _). l.event.dest / i.config.workers) c.get.ensures)
+    (c.index-index.ensures ∙ ap (λ (l : Letter _). l.event.dest / i.config.workers) c.get-first.ensures)
 
 within : (g : Over) (c : After-index-index g) → c.index-index.result < length c.self.inside.processes.items
 within g c =
@@ -96,7 +97,7 @@ fire-requires-after_bounds g c κs within_bounds =
     let stream : IsProcessStream i.config.seed (number_at i.config i.worker index) process.stream =
     subst (λ n. IsProcessStream i.config.seed (number_at i.config i.worker n) process.stream) zero_on
     (streams-get i.config i.worker 0 index (map stream_of i.processes.items) process.stream h.own_streams (get-map_of (λ (q : Process _ _ _ _). stream_of q) i.processes.items index process got)) in
-    let back = sym c.get.ensures in (
+    let back = sym c.get-first.ensures in (
       out_fits _ _ g.met.M.Model.payload_align g.met.M.Model.payload_size,
       (
         subst (λ (l : Letter _). l.event.dest < i.config.lps) back t.mine.within.known,
@@ -130,7 +131,7 @@ returns-in_default-clause-nothing g c none =
     )
 
 pub returns-in_default-clause-executed : goal.returns-in_default-clause-executed
-returns-in_default-clause-executed g c some = absurd (let k : false ≡ true = some in cc)
+returns-in_default-clause-executed g c some = absurd (false≢true some)
 
 pub returns-in_default-clause-leads : goal.returns-in_default-clause-leads
 returns-in_default-clause-leads g c =
@@ -145,6 +146,9 @@ returns-in_default-clause-settled g c =
     let same : c.take_first.new.self ≡ i.calendar = c.in_default.ensures.1 ∙ sym c.in_default.ensures.0 in
     let seen_same : record (view_of i) { stock = record (stock_of i) { pending = c.take_first.new.self } } ≡ c.args.self.now = (λ j. record (view_of i) { stock = record (stock_of i) { pending = same j } }) ∙ c.self.view_is in
     subst (λ (v : HeldPool _ _ _). AreSettled v.stock) (sym seen_same) c.requires.settled
+
+pub returns-in_default-clause-same : goal.returns-in_default-clause-same
+returns-in_default-clause-same g c = (ap (λ (v : HeldPool _ _ _). v.worker) c.self.view_is, ap (λ (v : HeldPool _ _ _). v.config) c.self.view_is)
 
 -- ---- a refusal
 
@@ -247,7 +251,7 @@ returns-in-Err-clause-refused g c =
     let process = c.index_mut-process.result.now in
     let got = there g at.After-index_mut-process (within g at.After-index-index) in
     let why = subst (λ p. IsAdvanceRefusal (fired_by handlers i.config p (standing process) c.in-Some.letter.event) i.serial c.in-Err.fault) t.number
-    (subst (λ (l : Letter _). IsAdvanceRefusal (fired_by handlers i.config l.event.dest (standing process) l.event) i.serial c.in-Err.fault) c.get.ensures c.in-Err.ensures.refused) in
+    (subst (λ (l : Letter _). IsAdvanceRefusal (fired_by handlers i.config l.event.dest (standing process) l.event) i.serial c.in-Err.fault) c.get-first.ensures c.in-Err.ensures.refused) in
     subst (λ (v : HeldPool _ _ _). IsNotExecuted handlers v c.in-Err.fault) c.self.view_is
     (not-executed handlers (view_of i) c.self.invariant.0.known c.self.invariant.0.inside index (standing process) c.in-Some.letter c.take_first.new.self
     (get-map_of (λ (q : Process _ _ _ _). standing q) i.processes.items index process got) c.in-Some.ensures t.number t.later c.in-Err.fault why)
@@ -261,6 +265,9 @@ returns-in-Err-clause-settled g c =
     let triples = map standing (slice_set c.self.inside.processes.items c.index-index.result c.fire.new.process) in
     subst (λ (v : HeldPool _ _ _). AreSettled v.stock) (sym (seen-again g at.After-put triples (facts g at.After-index-index).before)) c.requires.settled
 
+pub returns-in-Err-clause-same : goal.returns-in-Err-clause-same
+returns-in-Err-clause-same g c = (ap (λ (v : HeldPool _ _ _). v.worker) c.self.view_is, ap (λ (v : HeldPool _ _ _). v.config) c.self.view_is)
+
 -- ---- it is executed
 
 -- what the event left, said of the letter and its process
@@ -271,7 +278,7 @@ fires g c number =
     let i = c.self.inside in
     let handlers = g.M.Model.handlers c.args.model.now in
     subst (λ p. IsFired handlers i.config p c.in-Some.letter.event i.serial (standing c.index_mut-process.result.now) (standing c.fire.new.process) c.in-Ok.entry c.fire.new.out.sends c.fire.new.out.records) number
-    (subst (λ (l : Letter _). IsFired handlers i.config l.event.dest l.event i.serial (standing c.index_mut-process.result.now) (standing c.fire.new.process) c.in-Ok.entry c.fire.new.out.sends c.fire.new.out.records) c.get.ensures c.in-Ok.ensures.fired)
+    (subst (λ (l : Letter _). IsFired handlers i.config l.event.dest l.event i.serial (standing c.index_mut-process.result.now) (standing c.fire.new.process) c.in-Ok.entry c.fire.new.out.sends c.fire.new.out.records) c.get-first.ensures c.in-Ok.ensures.fired)
 
 -- the nodes that are there before it is written
 nodes-before : (g : Over) (c : After-keep g) → sum_by nodes_of (map (placed c.self.inside.worker) c.self.inside.log.events) + 2 * MAX_SENDS + 1 ≤ c.keep.new.self
@@ -310,17 +317,17 @@ serial-then g c = c.write-self-inside.ensures.next ∙ ap (λ n. n + length c.fi
 -- ---- its messages are delivered
 
 -- the greatest serial that was noted of the worker
-pub index_mut-requires : goal.index_mut-requires
-index_mut-requires g c =
+pub index_mut-most-requires : goal.index_mut-most-requires
+index_mut-most-requires g c =
     let known = c.self.invariant.0.known in
     let each = c.self.invariant.0.heard_each in
     search (rules, known, each)
 
-most-there : (g : Over) (c : After-index_mut g) → slice_get c.self.inside.heard.items c.self.inside.worker ≡ Some c.index_mut.result.now
+most-there : (g : Over) (c : After-index_mut-most g) → slice_get c.self.inside.heard.items c.self.inside.worker ≡ Some c.index_mut-most.result.now
 most-there g c =
     let known = c.self.invariant.0.known in
     let each = c.self.invariant.0.heard_each in
-    index-get c.self.inside.heard.items c.self.inside.worker c.index_mut.result.now (omega (arith, known, each)) (sym c.index_mut.ensures.value)
+    index-get c.self.inside.heard.items c.self.inside.worker c.index_mut-most.result.now (omega (arith, known, each)) (sym c.index_mut-most.ensures.value)
 
 pub deliver-requires : goal.deliver-requires
 deliver-requires g c =
@@ -329,16 +336,16 @@ deliver-requires g c =
     let fired = c.in-Ok.ensures.fired in
     let few = fired.few_sends in
     let counted = fired.counted in
-    let sends = ap length c.sends.ensures in
+    let sends = ap length c.sends-sends.ensures in
     let nodes = nodes-before g at.After-keep in
-    let there = most-there g at.After-index_mut in
+    let there = most-there g at.After-index_mut-most in
     let heard = (subst (AllByRecursion (λ (l : Letter _). IsHeard i.heard.items (letter_rank l).stamp)) c.in-Some.ensures c.self.invariant.0.heard_pending).1 in
     record {
       room = omega (arith, few, nodes, sends);
       few = omega (arith, counted, sends);
       sorted = c.self.invariant.0.by_worker;
       heard = every-weaker (λ (l : Letter _). IsHeard i.heard.items (letter_rank l).stamp)
-          (λ (l : Letter _). (letter_rank l).stamp.worker ≡ i.worker → (letter_rank l).stamp.serial ≤ c.index_mut.result.now) c.take_first.new.self
+          (λ (l : Letter _). (letter_rank l).stamp.worker ≡ i.worker → (letter_rank l).stamp.serial ≤ c.index_mut-most.result.now) c.take_first.new.self
           (λ l before own. subst (λ o. IfSome o (λ most. (letter_rank l).stamp.serial ≤ most)) (ap (slice_get i.heard.items) own ∙ there) before) heard;
     }
 
@@ -348,7 +355,7 @@ well : (g : Over) (c : After-deliver g) (t : IsTaken c.self.inside.config c.self
     → IsFired (g.M.Model.handlers c.args.model.now) c.self.inside.config (number_at c.self.inside.config c.self.inside.worker c.index-index.result) c.in-Some.letter.event c.self.inside.serial
     (standing c.index_mut-process.result.now) (standing c.fire.new.process) c.in-Ok.entry c.fire.new.out.sends c.fire.new.out.records
     → sum_by nodes_of (map (placed c.self.inside.worker) c.self.inside.log.events) + 2 * MAX_SENDS + 1 ≤ c.keep.new.self
-    → slice_get c.self.inside.heard.items c.self.inside.worker ≡ Some c.index_mut.result.now → AreSettled (stock_of c.self.inside)
+    → slice_get c.self.inside.heard.items c.self.inside.worker ≡ Some c.index_mut-most.result.now → AreSettled (stock_of c.self.inside)
     → IsWellDelivered (g.M.Model.handlers c.args.model.now) c.self.inside.config c.self.inside.worker (slice_set (map stream_of c.self.inside.processes.items) c.index-index.result c.fire.new.process.stream)
     c.self.inside.outbox.config (c.self.inside.serial + length c.fire.new.out.sends) c.later-self-inside.result c.deliver.new.kept
     (executed_in c.index-index.result (past_of c.self.inside.worker c.in-Ok.entry c.fire.new.out.sends c.fire.new.out.records) c.take_first.new.self (standing c.fire.new.process) (stock_of c.self.inside))
@@ -364,20 +371,20 @@ well g c t got fired nodes there settled =
     let sends = c.fire.new.out.sends in
     let event = past_of i.worker c.in-Ok.entry sends c.fire.new.out.records in
     let few = fired.few_sends in
-    let count = ap length c.sends.ensures in
+    let count = ap length c.sends-sends.ensures in
     let used = c.deliver.ensures.taken in
     let soon : TimeAtMost letter.event.rank.key.time c.later-self-inside.result =
-    subst (λ (l : Letter _). TimeAtMost l.event.rank.key.time c.later-self-inside.result) c.get.ensures (subst (λ n. TimeAtMost n c.later-self-inside.result) c.when.ensures c.later-self-inside.ensures.second) in
+    subst (λ (l : Letter _). TimeAtMost l.event.rank.key.time c.later-self-inside.result) c.get-first.ensures (subst (λ n. TimeAtMost n c.later-self-inside.result) c.when.ensures c.later-self-inside.ensures.second) in
     let letters = map (signed Plus) (stamped i.worker i.serial sends) in
     let pool = pool-executed handlers c.self.invariant.0 index (standing process) (standing after) letter rest c.in-Ok.entry sends c.fire.new.out.records process.stream after.stream c.later-self-inside.result
     (record i.outbox { letters = i.outbox.letters ++ letters }) (i.serial + length sends) c.deliver.new.kept fired t.known t.mine.signed c.in-Some.ensures t.later
     (get-map_of (λ (q : Process _ _ _ _). stream_of q) i.processes.items index process got) c.fire.ensures.stream.0 c.fire.ensures.stream.1 c.later-self-inside.ensures.first soon refl refl (omega (arith, nodes, few, used, count)) in
     let brought : event.letter ≡ letter = λ j. record { event = fired.event_is j; sign = sym t.mine.signed j } in
     let calm = executed-settled c.self.invariant.0.known c.self.invariant.0.inside index letter rest event (standing after) c.in-Some.ensures brought settled in
-    let done = subst (λ (xs : List (Sent _)). AreDelivered i.config i.worker c.later-self-inside.result (map (signed Plus) (stamped i.worker i.serial xs)) rest i.outbox.letters c.index_mut.result.now c.deliver.new.calendar c.deliver.new.outbox.letters c.deliver.new.most)
-    c.sends.ensures c.deliver.ensures.delivered in
+    let done = subst (λ (xs : List (Sent _)). AreDelivered i.config i.worker c.later-self-inside.result (map (signed Plus) (stamped i.worker i.serial xs)) rest i.outbox.letters c.index_mut-most.result.now c.deliver.new.calendar c.deliver.new.outbox.letters c.deliver.new.most)
+    c.sends-sends.ensures c.deliver.ensures.delivered in
     delivered handlers i.config i.worker (slice_set (map stream_of i.processes.items) index after.stream) i.outbox.config (i.serial + length sends) c.later-self-inside.result c.deliver.new.kept letters
-    (executed_in index event rest (standing after) (stock_of i)) i.outbox.letters i.heard.items c.index_mut.result.now pool calm there (messages-of i.worker i.serial sends) c.deliver.new.calendar c.deliver.new.outbox.letters c.deliver.new.most done
+    (executed_in index event rest (standing after) (stock_of i)) i.outbox.letters i.heard.items c.index_mut-most.result.now pool calm there (messages-of i.worker i.serial sends) c.deliver.new.calendar c.deliver.new.outbox.letters c.deliver.new.most done
 
 -- what is kept of the processes then
 stock-then : (g : Over) (c : After-write-self-inside g) (pending : List (Letter _))
@@ -398,7 +405,7 @@ invariant_of-self-2 g c =
     let t = facts g at.After-index-index in
     let got = there g at.After-index_mut-process (within g at.After-index-index) in
     let settled = subst (λ (v : HeldPool _ _ _). AreSettled v.stock) (sym c.self.view_is) c.requires.settled in
-    let d = well g at.After-deliver t got (fires g at.After-write-self-inside t.number) (nodes-before g at.After-keep) (most-there g at.After-index_mut) settled in
+    let d = well g at.After-deliver t got (fires g at.After-write-self-inside t.number) (nodes-before g at.After-keep) (most-there g at.After-index_mut-most) settled in
     let stock = sym (stock-then g at.After-write-self-inside c.deliver.new.calendar) in
     let streams = sym (map-put stream_of i.processes.items index after) in
     let next = serial-then g at.After-write-self-inside in
@@ -421,7 +428,7 @@ home_left-requires-clause-settled g c κs within_bounds =
     let t = facts g at.After-index-index in
     let got = there g at.After-index_mut-process (within g at.After-index-index) in
     let settled = subst (λ (v : HeldPool _ _ _). AreSettled v.stock) (sym c.self.view_is) c.requires.settled in
-    let d = well g at.After-deliver t got (fires g at.After-write-self-inside t.number) (nodes-before g at.After-keep) (most-there g at.After-index_mut) settled in
+    let d = well g at.After-deliver t got (fires g at.After-write-self-inside t.number) (nodes-before g at.After-keep) (most-there g at.After-index_mut-most) settled in
     subst AreSettled (sym (stock-then g at.After-write-self-inside c.deliver.new.calendar)) d.settled
 
 -- the event is remembered rightly, where the pool stands for a part
@@ -434,7 +441,7 @@ kept-rightly g c t ok =
     let handlers = g.M.Model.handlers c.args.model.now in
     let event = past_of i.worker c.in-Ok.entry c.fire.new.out.sends c.fire.new.out.records in
     subst (λ p. IsRemembered (simulation_of handlers i.config) p (standing c.index_mut-process.result.now) (remembered handlers p event)) t.number
-    (subst (λ (l : Letter _). IsRemembered (simulation_of handlers i.config) l.event.dest (standing c.index_mut-process.result.now) (remembered handlers l.event.dest event)) c.get.ensures (c.in-Ok.ensures.remembered ok i.worker))
+    (subst (λ (l : Letter _). IsRemembered (simulation_of handlers i.config) l.event.dest (standing c.index_mut-process.result.now) (remembered handlers l.event.dest event)) c.get-first.ensures (c.in-Ok.ensures.remembered ok i.worker))
 
 pub returns-clause-executed : goal.returns-clause-executed
 returns-clause-executed g c some =
@@ -446,7 +453,7 @@ returns-clause-executed g c some =
     let t = facts g at.After-index-index in
     let got = there g at.After-index_mut-process (within g at.After-index-index) in
     let settled = subst (λ (v : HeldPool _ _ _). AreSettled v.stock) (sym c.self.view_is) c.requires.settled in
-    let d = well g at.After-deliver t got (fires g at.After-write-self-inside t.number) (nodes-before g at.After-keep) (most-there g at.After-index_mut) settled in
+    let d = well g at.After-deliver t got (fires g at.After-write-self-inside t.number) (nodes-before g at.After-keep) (most-there g at.After-index_mut-most) settled in
     let mid : HeldPool _ _ _ = record (view_of i) {
       stock = executed_in index (past_of i.worker c.in-Ok.entry c.fire.new.out.sends c.fire.new.out.records) c.deliver.new.calendar (standing c.fire.new.process) (stock_of i);
       outbox = c.deliver.new.outbox.letters;
@@ -472,7 +479,7 @@ returns-clause-leads g c =
     let t = facts g at.After-index-index in
     let got = there g at.After-index_mut-process (within g at.After-index-index) in
     let settled = subst (λ (v : HeldPool _ _ _). AreSettled v.stock) (sym c.self.view_is) c.requires.settled in
-    let d = well g at.After-deliver t got (fires g at.After-write-self-inside t.number) (nodes-before g at.After-keep) (most-there g at.After-index_mut) settled in
+    let d = well g at.After-deliver t got (fires g at.After-write-self-inside t.number) (nodes-before g at.After-keep) (most-there g at.After-index_mut-most) settled in
     let mid : HeldPool _ _ _ = record (view_of i) {
       stock = executed_in index (past_of i.worker c.in-Ok.entry c.fire.new.out.sends c.fire.new.out.records) c.deliver.new.calendar (standing c.fire.new.process) (stock_of i);
       outbox = c.deliver.new.outbox.letters;
@@ -489,8 +496,11 @@ returns-clause-leads g c =
     (λ rest part s. kept-rightly g at.After-write-self-inside t (is-state g at.After-index_mut-process t got rest part s)) c.home_left.new.self home)
 
 pub returns-clause-nothing : goal.returns-clause-nothing
-returns-clause-nothing g c none = absurd (let k : true ≡ false = none in cc)
+returns-clause-nothing g c none = absurd (true≢false none)
 
 pub returns-clause-same : goal.returns-clause-same
 returns-clause-same g c =
     (c.home_left.ensures.same.0 ∙ ap (λ (v : HeldPool _ _ _). v.worker) c.self.view_is, c.home_left.ensures.same.1 ∙ ap (λ (v : HeldPool _ _ _). v.config) c.self.view_is)
+
+pub returns-clause-settled : goal.returns-clause-settled
+returns-clause-settled g c = c.home_left.ensures.settled

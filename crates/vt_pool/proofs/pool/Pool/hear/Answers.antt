@@ -1,6 +1,8 @@
-use Rattle.std.proofs.Common.{◌≡◌, ◌≤◌, false, map, arith, refl, slice_set, subst}
+use Rattle.std.proofs.Common.{◌≡◌, ◌≤◌, false, map, ap, arith, inl, inr, refl, slice_set, subst, sym, IfSome}
 use Rattle.std.proofs.Math.ListN.{length-set}
-use Rattle.std.proofs.lemmas.Option.{slice_get_read}
+use Rattle.std.proofs.lemmas.Bool.{false≢true}
+use Rattle.std.proofs.lemmas.Bool.Decides.{leb_tells}
+use Rattle.std.proofs.lemmas.Option.{slice_get_past, slice_get_read}
 use Rattle.vt_key.specs.declared.letter.Sign.TheVariants.{Plus}
 use Rattle.vt_model.specs.declared.process.Process.{Process}
 use Rattle.vt_model.specs.inside.Process.{triple_at}
@@ -38,3 +40,45 @@ returns-clause-heard g c =
     let stamp = c.args.stamp in
     let there = slice_get_read i.heard.items i.heard.len stamp.worker c.in-Some.most.now i.heard.ok.0 (c.in-Some.ensures.variant.0 refl) c.in-Some.ensures.value in
     now-heard i.heard.items stamp c.in-Some.most.now stamp.serial there (omega arith)
+
+pub returns-clause-same : goal.returns-clause-same
+returns-clause-same g c =
+    let stamp = c.args.stamp in
+    ap (λ (v : HeldPool _ _ _). record v { heard = slice_set c.self.inside.heard.items stamp.worker stamp.serial }) c.self.view_is
+
+-- ---- it was noted
+
+pub returns-then-stamp-most-clause-new : goal.returns-then-stamp-most-clause-new
+returns-then-stamp-most-clause-new g c new = absurd (false≢true new)
+
+pub returns-then-stamp-most-clause-heard : goal.returns-then-stamp-most-clause-heard
+returns-then-stamp-most-clause-heard g c =
+    let i = c.self.inside in
+    let stamp = c.args.stamp in
+    let most = c.in-Some.most.now in
+    let there = slice_get_read i.heard.items i.heard.len stamp.worker most i.heard.ok.0 (c.in-Some.ensures.variant.0 refl) c.in-Some.ensures.value in
+    now-heard i.heard.items stamp most most there c.if-stamp-most.true
+
+pub returns-then-stamp-most-clause-same : goal.returns-then-stamp-most-clause-same
+returns-then-stamp-most-clause-same g c =
+    ap (λ (v : HeldPool _ _ _). record v { heard = slice_set c.self.inside.heard.items c.args.stamp.worker c.in-Some.most.now }) c.self.view_is
+
+-- ---- no such worker
+
+pub invariant_of-self : goal.invariant_of-self
+invariant_of-self g c = c.self.invariant
+
+pub returns-in_default-clause-new : goal.returns-in_default-clause-new
+returns-in_default-clause-new g c new = absurd (false≢true new)
+
+pub returns-in_default-clause-same : goal.returns-in_default-clause-same
+returns-in_default-clause-same g c = ap (λ (v : HeldPool _ _ _). record v { heard = c.self.inside.heard.items }) c.self.view_is
+
+pub returns-in_default-clause-heard : goal.returns-in_default-clause-heard
+returns-in_default-clause-heard g c =
+    let i = c.self.inside in
+    let stamp = c.args.stamp in
+    elim (leb_tells i.heard.len stamp.worker) [
+      | inl past ↦ subst (λ o. IfSome o (λ most. stamp.serial ≤ most)) (sym (slice_get_past i.heard.items stamp.worker (subst (λ n. n ≤ stamp.worker) i.heard.ok.0 past.1))) tt
+      | inr there ↦ absurd (false≢true (c.in_default.ensures.variant.1 there.1))
+    ]

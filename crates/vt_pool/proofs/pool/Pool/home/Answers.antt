@@ -1,4 +1,5 @@
-use Rattle.std.proofs.Common.{◌≡◌, ◌∙◌, false, find, arith, sym, subst, Some}
+use Rattle.std.proofs.Common.{◌≡◌, ◌∙◌, false, find, arith, sym, ap, subst, Some}
+use Rattle.std.proofs.lemmas.Option.{same_Some}
 use Rattle.vt_key.specs.promise.Queues.{letter_rank}
 use Rattle.vt_key.specs.declared.letter.Letter.{Letter}
 use Rattle.vt_model.specs.promise.Settings.{end_of}
@@ -35,8 +36,7 @@ ends g c = λ j. let v : HeldPool _ _ _ = sym c.is_held.ensures.same j in find (
 pub receive-requires-clause-may : goal.receive-requires-clause-may
 receive-requires-clause-may g c κs within =
     let at = (goal.at.receive-requires-clause-may g c).After-take_home in
-    let k : Some c.in-Some-take_home.node ≡ Some c.in-Some.first.now = c.in-Some-take_home.ensures.letter ∙ sym (ends g at) ∙ found g at in
-    let same : c.in-Some.first.now ≡ c.in-Some-take_home.node = cc in
+    let same = same_Some c.in-Some.first.now c.in-Some-take_home.node (sym (c.in-Some-take_home.ensures.letter ∙ sym (ends g at) ∙ found g at)) in
     let soon : IsWithinRun c.args.self.now.config.lps (end_of c.args.self.now.config) c.in-Some.first.now =
     subst (λ (v : HeldPool _ _ _). IsWithinRun v.config.lps (end_of v.config) c.in-Some.first.now) c.is_held.ensures.same
     (subst (λ (l : Letter _). IsWithinRun c.is_held.new.self.config.lps (end_of c.is_held.new.self.config) l) (sym same) c.in-Some-take_home.ensures.within) in
@@ -47,8 +47,7 @@ pub returns-clause-leads : goal.returns-clause-leads
 returns-clause-leads g c =
     let at = (goal.at.returns-clause-leads g c).After-take_home in
     let handlers = g.M.Model.handlers c.args.model.now in
-    let k : Some c.in-Some-take_home.node ≡ Some c.in-Some.first.now = c.in-Some-take_home.ensures.letter ∙ sym (ends g at) ∙ found g at in
-    let same : c.in-Some.first.now ≡ c.in-Some-take_home.node = cc in
+    let same = same_Some c.in-Some.first.now c.in-Some-take_home.node (sym (c.in-Some-take_home.ensures.letter ∙ sym (ends g at) ∙ found g at)) in
     let soon : IsWithinRun c.args.self.now.config.lps (end_of c.args.self.now.config) c.in-Some.first.now =
     subst (λ (v : HeldPool _ _ _). IsWithinRun v.config.lps (end_of v.config) c.in-Some.first.now) c.is_held.ensures.same
     (subst (λ (l : Letter _). IsWithinRun c.is_held.new.self.config.lps (end_of c.is_held.new.self.config) l) (sym same) c.in-Some-take_home.ensures.within) in
@@ -59,11 +58,19 @@ returns-clause-leads g c =
 pub returns-clause-work : goal.returns-clause-work
 returns-clause-work g c _ =
     let at = (goal.at.returns-clause-work g c).After-take_home in
-    let k : Some c.in-Some-take_home.node ≡ Some c.in-Some.first.now = c.in-Some-take_home.ensures.letter ∙ sym (ends g at) ∙ found g at in
-    let same : c.in-Some.first.now ≡ c.in-Some-take_home.node = cc in
+    let same = same_Some c.in-Some.first.now c.in-Some-take_home.node (sym (c.in-Some-take_home.ensures.letter ∙ sym (ends g at) ∙ found g at)) in
     let soon : IsWithinRun c.args.self.now.config.lps (end_of c.args.self.now.config) c.in-Some.first.now =
     subst (λ (v : HeldPool _ _ _). IsWithinRun v.config.lps (end_of v.config) c.in-Some.first.now) c.is_held.ensures.same
     (subst (λ (l : Letter _). IsWithinRun c.is_held.new.self.config.lps (end_of c.is_held.new.self.config) l) (sym same) c.in-Some-take_home.ensures.within) in
     let less = home-weight c.args.self.now c.is_held.new.self c.take_home.new.self c.in-Some.first.now c.is_held.ensures.same c.take_home.ensures.left (found g at) soon (not-held g at) in
     let most = c.receive.ensures.work in
     omega (arith, less, most)
+
+pub returns-clause-settled : goal.returns-clause-settled
+returns-clause-settled g c = c.receive.ensures.settled
+
+pub returns-clause-same : goal.returns-clause-same
+returns-clause-same g c = (
+  c.receive.ensures.same.0 ∙ ap (λ (v : HeldPool _ _ _). v.worker) c.take_home.ensures.left ∙ ap (λ (v : HeldPool _ _ _). v.worker) c.is_held.ensures.same,
+  c.receive.ensures.same.1 ∙ ap (λ (v : HeldPool _ _ _). v.config) c.take_home.ensures.left ∙ ap (λ (v : HeldPool _ _ _). v.config) c.is_held.ensures.same,
+)

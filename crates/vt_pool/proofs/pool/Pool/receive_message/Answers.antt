@@ -1,4 +1,4 @@
-use Rattle.std.proofs.Common.{◌≡◌, ◌∙◌, ◌<◌, ◌/◌, ◌%◌, List, length, inl, ap, arith, subst, sym}
+use Rattle.std.proofs.Common.{◌≡◌, ◌∙◌, ◌<◌, ◌≤◌, ◌/◌, ◌%◌, List, length, inl, ap, subst, sym}
 use Rattle.vt_key.specs.inside.Order.{RankBefore}
 use Rattle.vt_key.specs.promise.Queues.{letter_rank, insert_letter}
 use Rattle.vt_key.specs.promise.Lists.{Among}
@@ -120,4 +120,4 @@ returns-clause-work g c =
     let came = ap weight_of c.put_pending.ensures in
     let undone = c.undo_from.ensures.work in
     let left = cancelled-weight c.undo_from.new.self c.cancel.new.self c.get.result.now.event.rank c.get-2.result.now.event.dest c.cancel.ensures in
-    omega (arith, came, undone, left)
+    subst (λ n. weight_of c.cancel.new.self ≤ n) came (subst (λ n. n ≤ weight_of c.put_pending.new.self) (sym left) undone)

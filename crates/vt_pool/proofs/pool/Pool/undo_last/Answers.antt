@@ -1,6 +1,7 @@
-use Rattle.std.proofs.Common.{rules, ◌≡◌, ◌∙◌, ◌<◌, ◌≤◌, ◌+◌, ◌-◌, ◌%◌, ◌^◌, ◌++◌, length, map, sym, ap, subst, arith, Some, None, slice_get, slice_set}
+use Rattle.std.proofs.Common.{rules, ◌≡◌, ◌∙◌, ℕ, ◌<◌, ◌≤◌, ◌+◌, ◌-◌, ◌%◌, ◌^◌, ◌++◌, length, map, sym, ap, subst, arith, Some, None, slice_get, slice_set}
 use Rattle.std.specs.List.{last_or}
 use Rattle.std.proofs.lemmas.List.{length-map}
+use Rattle.std.proofs.lemmas.Option.{none-some, same_Some}
 use Rattle.std.proofs.Math.ListN.{length-set}
 use Rattle.vt_key.specs.promise.Queues.{letter_rank, insert_letter}
 use Rattle.vt_key.specs.inside.Queues.{holds_rank}
@@ -33,13 +34,23 @@ use Rattle.vt_pool.proofs.pool.Pool.undo_last.Given.{Over}
 use Rattle.vt_pool.proofs.pool.Pool.undo_last.Goals.{After-index_mut, After-put}
 use Rattle.vt_pool.proofs.pool.Pool.undo_last.Goals as goal
 
+-- numbers alone: of the nodes that an undo takes, and of the serials of what was sent
+room-for : (all rest sent made kept : ℕ) → all ≡ rest + (1 + sent) → made ≡ sent → all ≤ kept → made ≤ kept
+room-for all rest sent made kept nodes is enough = omega arith
+
+one-left : (all rest sent made old new : ℕ) → all ≡ rest + (1 + sent) → made ≡ sent → all ≤ old → old ≡ new + made → 0 < new
+one-left all rest sent made old new nodes is enough left = omega arith
+
+few-made : (s n serial sent all most : ℕ) → s ≡ serial → n ≡ sent → serial + sent ≤ all → all ≤ most → s + n ≤ most
+few-made s n serial sent all most first second made few = omega arith
+
 pub last-requires : goal.last-requires
 last-requires g c =
     let i = c.self.inside in
     let there = subst (λ (v : HeldPool _ _ _). c.args.index < length v.stock.triples) (sym c.self.view_is) c.requires.there in
     let count = length-map i.processes.items (λ (q : Process _ _ _ _). triple_at q.state q.number q.stream) in
     let long = c.self.invariant.2 in
-    omega (arith, there, count, long)
+    subst (λ n. c.args.index < n) (count ∙ sym long) there
 
 pub last_sends-sends-requires : goal.last_sends-sends-requires
 last_sends-sends-requires g c =
@@ -47,7 +58,7 @@ last_sends-sends-requires g c =
     let there = subst (λ (v : HeldPool _ _ _). c.args.index < length v.stock.triples) (sym c.self.view_is) c.requires.there in
     let count = length-map i.processes.items (λ (q : Process _ _ _ _). triple_at q.state q.number q.stream) in
     let long = c.self.invariant.2 in
-    omega (arith, there, count, long)
+    subst (λ n. c.args.index < n) (count ∙ sym long) there
 
 pub take_last-requires : goal.take_last-requires
 take_last-requires g c =
@@ -55,14 +66,14 @@ take_last-requires g c =
     let there = subst (λ (v : HeldPool _ _ _). c.args.index < length v.stock.triples) (sym c.self.view_is) c.requires.there in
     let count = length-map i.processes.items (λ (q : Process _ _ _ _). triple_at q.state q.number q.stream) in
     let long = c.self.invariant.2 in
-    omega (arith, there, count, long)
+    subst (λ n. c.args.index < n) (count ∙ sym long) there
 
 pub returns-in_default-clause-undone : goal.returns-in_default-clause-undone
 returns-in_default-clause-undone g c event triple last at =
     let i = c.self.inside in
     let none = last-none i.worker c.args.index i.log.events c.in_default.ensures in
     let seen : last_or None (past_at c.args.index (map (placed i.worker) i.log.events)) ≡ Some event = subst (λ (v : HeldPool _ _ _). last_or None (past_at c.args.index v.stock.past) ≡ Some event) (sym c.self.view_is) last in
-    absurd (let k : None ≡ Some event = sym none ∙ seen in cc)
+    absurd (none-some event (sym none ∙ seen))
 
 pub post-requires-clause-room : goal.post-requires-clause-room
 post-requires-clause-room g c =
@@ -72,7 +83,7 @@ post-requires-clause-room g c =
     let nodes = nodes-last i.worker c.args.index e i.log.events at in
     let sends = ap length (sends-of_last at c.last_sends-sends.ensures) in
     let enough = c.self.invariant.0.enough in
-    omega (arith, nodes, sends, enough)
+    room-for _ _ _ _ _ nodes sends enough
 
 pub post-requires-clause-few : goal.post-requires-clause-few
 post-requires-clause-few g c =
@@ -83,7 +94,7 @@ post-requires-clause-few g c =
     let serial = ap (λ (x : Entry _ _). x.serial) c.in-Some.ensures.2 in
     let made = every-last_of i.worker (λ (d : Logged _ _). d.entry.serial + length d.sends ≤ i.serial) c.args.index e i.log.events c.self.invariant.1 at in
     let few = c.self.invariant.0.few_made in
-    omega (arith, sends, serial, made, few)
+    few-made _ _ _ _ _ _ serial sends made few
 
 pub index_mut-requires : goal.index_mut-requires
 index_mut-requires g c =
@@ -116,7 +127,7 @@ put-node-requires g c =
     let sends = ap length (sends-of_last at c.last_sends-sends.ensures) in
     let enough = c.self.invariant.0.enough in
     let left = c.post.ensures.taken in
-    record { some = omega (arith, nodes, sends, enough, left) }
+    record { some = one-left _ _ _ _ _ _ nodes sends enough left }
 
 pub put-requires : goal.put-requires
 put-requires g c =
@@ -165,7 +176,7 @@ there g c =
     let e = c.in-Some.ensures.0 in
     let within = last-within c.args.index (placed i.worker e).event c.self.invariant.0.known c.self.invariant.0.inside (last-is i.worker c.args.index e i.log.events c.in-Some.ensures.1) in
     let count = length-map i.processes.items (λ (q : Process _ _ _ _). standing q) in
-    index-get i.processes.items c.args.index c.index_mut.result.now (omega (arith, within, count)) (sym c.index_mut.ensures.value)
+    index-get i.processes.items c.args.index c.index_mut.result.now (subst (λ n. c.args.index < n) count within) (sym c.index_mut.ensures.value)
 
 pub invariant_of-self : goal.invariant_of-self
 invariant_of-self g c =
@@ -230,10 +241,8 @@ returns-clause-undone g c event triple last at =
     } in
     let last0 : last_or None (past_at c.args.index old.stock.past) ≡ Some event = subst (λ (v : HeldPool _ _ _). last_or None (past_at c.args.index v.stock.past) ≡ Some event) (sym c.self.view_is) last in
     let at0 : slice_get old.stock.triples c.args.index ≡ Some triple = subst (λ (v : HeldPool _ _ _). slice_get v.stock.triples c.args.index ≡ Some triple) (sym c.self.view_is) at in
-    let k : Some event0 ≡ Some event = sym (last-is i.worker c.args.index e i.log.events c.in-Some.ensures.1) ∙ last0 in
-    let event_is : event0 ≡ event = cc in
-    let l : Some (standing before) ≡ Some triple = sym (get-map_of (λ (q : Process _ _ _ _). standing q) i.processes.items c.args.index before (there g c)) ∙ at0 in
-    let triple_is : standing before ≡ triple = cc in
+    let event_is = same_Some event0 event (sym (last-is i.worker c.args.index e i.log.events c.in-Some.ensures.1) ∙ last0) in
+    let triple_is = same_Some (standing before) triple (sym (get-map_of (λ (q : Process _ _ _ _). standing q) i.processes.items c.args.index before (there g c)) ∙ at0) in
     (λ j. record old { stock = sym (kept-after g c) j; outbox = (sent-after g c j).letters })
     ∙ (λ j. record old { stock = undone_in c.args.index event0 (back g c j) old.stock; outbox = old.outbox ++ event0.anti_messages })
     ∙ (λ j. pool_after_undo handlers c.args.index (event_is j) (triple_is j) old)
@@ -244,4 +253,4 @@ returns-clause-nothing g c none =
     let i = c.self.inside in
     let e = c.in-Some.ensures.0 in
     let none0 : last_or None (past_at c.args.index (map (placed i.worker) i.log.events)) ≡ None = subst (λ (v : HeldPool _ _ _). last_or None (past_at c.args.index v.stock.past) ≡ None) (sym c.self.view_is) none in
-    absurd (let k : Some (placed i.worker e).event ≡ None = sym (last-is i.worker c.args.index e i.log.events c.in-Some.ensures.1) ∙ none0 in cc)
+    absurd (none-some (placed i.worker e).event (sym none0 ∙ last-is i.worker c.args.index e i.log.events c.in-Some.ensures.1))
