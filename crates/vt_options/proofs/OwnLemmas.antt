@@ -8,6 +8,9 @@ use Rattle.clap.specs.Words.{Text}
 use Rattle.vt_key.specs.declared.fault.Fault.{Fault}
 use Rattle.vt_key.specs.declared.fault.Fault.TheVariants.{Memory, BadOption}
 use Rattle.vt_model.specs.promise.Settings.{is_between}
+use Rattle.vt_options.specs.declared.asking.Request.{Request}
+use Rattle.vt_options.specs.declared.asking.Request.TheVariants as request
+use Rattle.vt_options.specs.declared.choices.Task.TheVariants.{Run, Replay}
 use Rattle.vt_options.specs.declared.choices.RunSettings.{RunSettings}
 use Rattle.vt_options.specs.declared.choices.ReplaySettings.{ReplaySettings}
 use Rattle.vt_options.specs.declared.own.OwnOption.{OwnOption}
@@ -16,8 +19,9 @@ use Rattle.vt_options.specs.promise.Line.{given_by, texts_by}
 use Rattle.vt_options.specs.promise.Requests.{AreBy}
 use Rattle.vt_options.specs.inside.Requests.{IsRefusedByOf}
 use Rattle.vt_options.specs.promise.Table.{Given, NumberOption, bad, bad_number, first_name, first_bad_of, value_in}
-use Rattle.vt_options.specs.promise.Own.{AreInRange, AreWithin, GiveRun, GiveReplay, GiveValues, Models, OptionPath, app_for, first_bad_of_run, first_bad_of_replay, line_for, number_option, number_table}
+use Rattle.vt_options.specs.promise.Own.{AreInRange, AreWithin, GiveRun, GiveReplay, GiveValues, Models, OptionPath, app_for, first_bad_of_run, first_bad_of_replay, line_for, number_option, number_table, path_of}
 use Rattle.vt_options.specs.inside.Own.{NamesBad}
+use Rattle.vt_options.specs.inside.Asked.{AsksReplay, AsksRun, IsAsked}
 use Rattle.vt_options.proofs.RequestLemmas as requests
 
 -- each element passes a test that all pass
@@ -96,6 +100,17 @@ module _ (name : Text) (models : Models) (words : List Text) (found : Given) (te
 
   pub replay_given : (s : ReplaySettings) (k : ℕ) (values : List ℕ) (l : Option ℕ) (p : Option ProgramChoice) (fs : List OptionPath) → GiveReplay models found texts s k values l p fs → GiveReplay models (given_by (app_for name models) words) (texts_by (app_for name models) words (codes "set")) s k values l p fs
   replay_given s k values l p fs = by_words (λ g ts. GiveReplay models g ts s k values l p fs)
+
+  -- so words of a run ask for it
+  pub run_asked : AreBy (app_for name models) (codes "run") words → (r : Request) → AsksRun models found texts r → IsAsked name models words r
+  run_asked are (request.Task (Run s) c) h = record { run = are; options = run_given s c.model c.values.items c.lps c.program (map path_of c.files.items) h }
+  run_asked are (request.Task (Replay s) c) h = absurd h
+  run_asked are (request.Help text) h = absurd h
+
+  pub replay_asked : AreBy (app_for name models) (codes "replay") words → (r : Request) → AsksReplay models found texts r → IsAsked name models words r
+  replay_asked are (request.Task (Replay s) c) h = record { replay = are; options = replay_given s c.model c.values.items c.lps c.program (map path_of c.files.items) h }
+  replay_asked are (request.Task (Run s) c) h = absurd h
+  replay_asked are (request.Help text) h = absurd h
 
   module _ (fault : Fault) where
     -- a refusal for memory refuses any words

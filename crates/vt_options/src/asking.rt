@@ -1,13 +1,15 @@
 //! Requests: what the command line of a program of models asks for.
 
-ghost use Rattle.std.specs.Prelude.{◌≡◌, ◌++◌, [], List, IfOk, IfErr, codes, map};
+ghost use Rattle.std.specs.Prelude.{◌≡◌, ◌++◌, [], List, None, Some, IfOk, IfErr, codes, map};
 ghost use Rattle.clap.specs.Words.{Text, fault_of, subcommand_of, subcommand_rows_of, first_value, found_of, HasKind};
 ghost use Rattle.vt_options.specs.promise.Line.{once};
-ghost use Rattle.vt_options.specs.inside.Line.{helps_of, names_of, options_of, texts_in};
-ghost use Rattle.vt_options.specs.promise.Own.{GiveRun, GiveReplay, number_table, path_of, table_names, naming_names, app_for, line_for, printing_options, program_options, run_options, replay_options, first_bad_of_run, first_bad_of_replay};
-ghost use Rattle.vt_options.specs.inside.Own.{AllHaveDefaults, NamesBad, models_of, file_names, tables_of};
+ghost use Rattle.vt_options.specs.inside.Line.{helps_of, options_of, texts_in};
+ghost use Rattle.vt_options.specs.promise.Table.{lps, value_in};
+ghost use Rattle.vt_options.specs.promise.Programs.{value_given};
+ghost use Rattle.vt_options.specs.promise.Own.{GiveModel, GivePaths, GiveProgram, number_table, path_of, table_names, naming_names, app_for, line_for, program_options, run_options, replay_options, first_bad_of_program, first_bad_of_run, first_bad_of_replay};
+ghost use Rattle.vt_options.specs.inside.Own.{AllHaveDefaults, NamesBad, models_of, file_names, options_round, tables_of};
 ghost use Rattle.vt_options.specs.inside.Requests.{IsRefusedByOf};
-ghost use Rattle.vt_options.specs.inside.Asked.{IsAsked};
+ghost use Rattle.vt_options.specs.inside.Asked.{AsksReplay, AsksRun, IsAsked};
 
 use crate::line::{LineOption, ProgramTexts, Uses, matches_in};
 use crate::models::{model_option, model_values};
@@ -36,6 +38,102 @@ pub enum Request<'a> {
     Help(String),
 }
 
+/// The options of `run` before those of models.
+static RUN_FIRST: [LineOption; 5] = [
+    LineOption {
+        text: SYNCH,
+        uses: Uses::Once,
+    },
+    LineOption {
+        text: WORKERS,
+        uses: Uses::Once,
+    },
+    LineOption {
+        text: LPS,
+        uses: Uses::Once,
+    },
+    LineOption {
+        text: END,
+        uses: Uses::Once,
+    },
+    LineOption {
+        text: SEED,
+        uses: Uses::Once,
+    },
+];
+
+/// The options of `run` behind those of models.
+static RUN_LAST: [LineOption; 4] = [
+    LineOption {
+        text: TURNS,
+        uses: Uses::Once,
+    },
+    LineOption {
+        text: TEXT,
+        uses: Uses::Once,
+    },
+    LineOption {
+        text: FINALS,
+        uses: Uses::Flag,
+    },
+    LineOption {
+        text: RECORDS,
+        uses: Uses::Once,
+    },
+];
+
+/// The options of `replay` before those of models.
+static REPLAY_FIRST: [LineOption; 4] = [
+    LineOption {
+        text: REPLAY_WORKERS,
+        uses: Uses::Once,
+    },
+    LineOption {
+        text: LPS,
+        uses: Uses::Once,
+    },
+    LineOption {
+        text: END,
+        uses: Uses::Once,
+    },
+    LineOption {
+        text: SEED,
+        uses: Uses::Once,
+    },
+];
+
+/// The options of `replay` behind those of models.
+static REPLAY_LAST: [LineOption; 2] = [
+    LineOption {
+        text: SERIAL,
+        uses: Uses::Once,
+    },
+    LineOption {
+        text: TEXT,
+        uses: Uses::Once,
+    },
+];
+
+/// The options of programs.
+static OF_A_PROGRAM: [LineOption; 4] = [
+    LineOption {
+        text: PROGRAM,
+        uses: Uses::Once,
+    },
+    LineOption {
+        text: SET,
+        uses: Uses::ManyTimes,
+    },
+    LineOption {
+        text: DATA,
+        uses: Uses::Once,
+    },
+    LineOption {
+        text: FUEL,
+        uses: Uses::Once,
+    },
+];
+
 /// An option that a line gives once at most, with a value.
 fn once(text: OptionText) -> LineOption
     ensures { (result.text ≡ text) × (result.uses ≡ Uses.Once) }
@@ -46,12 +144,12 @@ fn once(text: OptionText) -> LineOption
     }
 }
 
-/// Adds these options, which a line gives once at most, to a list.
-fn add_all(list: &mut Vec<LineOption>, more: &[OptionText]) -> Result<(), AllocError>
-    ensures { IfOk result (λ _. options_of list.new.items ≡ options_of list.old.items ++ map once (names_of more.now)) }
+/// Adds these options to a list.
+fn add_all(list: &mut Vec<LineOption>, more: &[LineOption]) -> Result<(), AllocError>
+    ensures { IfOk result (λ _. options_of list.new.items ≡ options_of list.old.items ++ options_of more.now) }
 {
-    for text in more {
-        list.push(once(*text))?;
+    for option in more {
+        list.push(*option)?;
     }
     Ok(())
 }
@@ -130,71 +228,88 @@ fn add_files(list: &mut Vec<LineOption>, files: &[FileOption]) -> Result<(), All
     Ok(())
 }
 
-/// Adds the options that say what a run prints beside the version of its text.
-fn add_printing(list: &mut Vec<LineOption>) -> Result<(), AllocError>
-    ensures { IfOk result (λ _. options_of list.new.items ≡ options_of list.old.items ++ printing_options) }
-{
-    list.push(LineOption {
-        text: FINALS,
-        uses: Uses::Flag,
-    })?;
-    list.push(once(RECORDS))?;
-    Ok(())
-}
-
 /// Adds the options of programs to a list, where the table lets them take a model's place.
 fn add_programs(list: &mut Vec<LineOption>, programs: bool) -> Result<(), AllocError>
     ensures { IfOk result (λ _. options_of list.new.items ≡ options_of list.old.items ++ program_options programs) }
 {
     if programs {
-        list.push(once(PROGRAM))?;
-        list.push(LineOption {
-            text: SET,
-            uses: Uses::ManyTimes,
-        })?;
-        list.push(once(DATA))?;
-        list.push(once(FUEL))?;
+        add_all(list, &OF_A_PROGRAM)
+    } else {
+        Ok(())
     }
-    Ok(())
+}
+
+/// The options of a subcommand that has these before and behind those of models and files, in the order in which they are tested.
+fn line_options(
+    alloc: Global,
+    table: &ModelTable<'_>,
+    first: &[LineOption],
+    last: &[LineOption],
+) -> Result<Vec<LineOption>, AllocError>
+    ensures { IfOk result (λ list. options_of list.items ≡ options_round (models_of table.now) (options_of first.now) (options_of last.now)) }
+{
+    let mut list = Vec::new(alloc);
+    add_naming(&mut list, table)?;
+    add_all(&mut list, first)?;
+    add_models(&mut list, table.models)?;
+    add_files(&mut list, table.files)?;
+    add_all(&mut list, last)?;
+    add_programs(&mut list, table.programs)?;
+    Ok(list)
 }
 
 /// The options of `run`, in the order in which they are tested.
 fn run_options(alloc: Global, table: &ModelTable<'_>) -> Result<Vec<LineOption>, AllocError>
     ensures { IfOk result (λ list. options_of list.items ≡ run_options (models_of table.now)) }
 {
-    let mut list = Vec::new(alloc);
-    add_naming(&mut list, table)?;
-    add_all(&mut list, &[SYNCH, WORKERS, LPS, END, SEED])?;
-    add_models(&mut list, table.models)?;
-    add_files(&mut list, table.files)?;
-    add_all(&mut list, &[TURNS, TEXT])?;
-    add_printing(&mut list)?;
-    add_programs(&mut list, table.programs)?;
-    Ok(list)
+    line_options(alloc, table, &RUN_FIRST, &RUN_LAST)
 }
 
 /// The options of `replay`, in the order in which they are tested.
 fn replay_options(alloc: Global, table: &ModelTable<'_>) -> Result<Vec<LineOption>, AllocError>
     ensures { IfOk result (λ list. options_of list.items ≡ replay_options (models_of table.now)) }
 {
-    let mut list = Vec::new(alloc);
-    add_naming(&mut list, table)?;
-    add_all(&mut list, &[REPLAY_WORKERS, LPS, END, SEED])?;
-    add_models(&mut list, table.models)?;
-    add_files(&mut list, table.files)?;
-    add_all(&mut list, &[SERIAL, TEXT])?;
-    add_programs(&mut list, table.programs)?;
-    Ok(list)
+    line_options(alloc, table, &REPLAY_FIRST, &REPLAY_LAST)
 }
 
-/// The settings of a run, and the model with the values of its options, or the program.
+/// The model of an index with these values, and what else the words choose: the number of processes, which is this one if they give
+/// one, the files, and the program in the model's place.
+fn chosen_of<'a>(
+    alloc: Global,
+    matches: &ArgMatches<'a>,
+    table: &ModelTable<'_>,
+    model: usize,
+    values: Vec<u32>,
+    processes: u32,
+) -> Result<Chosen<'a>, Fault>
+    requires model { GiveModel (models_of table.now) (first_value (found_of matches.now)) model values.items }
+    requires processes { value_in (first_value (found_of matches.now)) lps ≡ Some processes }
+    ensures model { IfOk result (λ c. GiveModel (models_of table.now) (first_value (found_of matches.now)) c.model c.values.items) }
+    ensures processes { IfOk result (λ c. value_given (first_value (found_of matches.now)) lps ≡ c.lps) }
+    ensures program { IfOk result (λ c. GiveProgram (models_of table.now) (first_value (found_of matches.now)) (texts_in matches.now (codes "set")) c.program) }
+    ensures paths { IfOk result (λ c. GivePaths (first_value (found_of matches.now)) (file_names table.now.files.now) (map path_of c.files.items)) }
+    ensures good { IfOk result (λ _. first_bad_of_program (models_of table.now) (first_value (found_of matches.now)) (texts_in matches.now (codes "set")) ≡ None) }
+    ensures err { IfErr result (NamesBad (first_bad_of_program (models_of table.now) (first_value (found_of matches.now)) (texts_in matches.now (codes "set")))) }
+{
+    let program = program_option(alloc, matches, table)?;
+    let files = file_options(alloc, matches, table.files)?;
+    Ok(Chosen {
+        model,
+        values,
+        files,
+        lps: lps_given(matches, processes),
+        program,
+    })
+}
+
+/// The request for a run: its settings, and the model with the values of its options, or the program.
 fn read_run<'a>(
     alloc: Global,
     matches: &ArgMatches<'a>,
     table: &ModelTable<'_>,
-) -> Result<(RunSettings, Chosen<'a>), Fault>
+) -> Result<Request<'a>, Fault>
     requires { AllHaveDefaults table.now.models.now }
-    ensures ok { IfOk result (λ r. GiveRun (models_of table.now) (first_value (found_of matches.now)) (texts_in matches.now (codes "set")) r.0 r.1.model r.1.values.items r.1.lps r.1.program (map path_of r.1.files.items)) }
+    ensures ok { IfOk result (AsksRun (models_of table.now) (first_value (found_of matches.now)) (texts_in matches.now (codes "set"))) }
     ensures err { IfErr result (NamesBad (first_bad_of_run (models_of table.now) (first_value (found_of matches.now)) (texts_in matches.now (codes "set")))) }
 {
     let model = model_option(matches, table)?;
@@ -205,8 +320,6 @@ fn read_run<'a>(
     let text = text_option(matches)?;
     let finals = finals_option(matches, text)?;
     let records = records_option(matches, text)?;
-    let program = program_option(alloc, matches, table)?;
-    let files = file_options(alloc, matches, table.files)?;
     let settings = RunSettings {
         synch,
         config,
@@ -214,24 +327,18 @@ fn read_run<'a>(
         records,
         finals,
     };
-    let chosen = Chosen {
-        model,
-        values,
-        files,
-        lps: lps_given(matches, config.lps),
-        program,
-    };
-    Ok((settings, chosen))
+    let chosen = chosen_of(alloc, matches, table, model, values, config.lps)?;
+    Ok(Request::Task(Task::Run(settings), chosen))
 }
 
-/// The settings of a replay, and the model with the values of its options, or the program.
+/// The request for a replay: its settings, and the model with the values of its options, or the program.
 fn read_replay<'a>(
     alloc: Global,
     matches: &ArgMatches<'a>,
     table: &ModelTable<'_>,
-) -> Result<(ReplaySettings, Chosen<'a>), Fault>
+) -> Result<Request<'a>, Fault>
     requires { AllHaveDefaults table.now.models.now }
-    ensures ok { IfOk result (λ r. GiveReplay (models_of table.now) (first_value (found_of matches.now)) (texts_in matches.now (codes "set")) r.0 r.1.model r.1.values.items r.1.lps r.1.program (map path_of r.1.files.items)) }
+    ensures ok { IfOk result (AsksReplay (models_of table.now) (first_value (found_of matches.now)) (texts_in matches.now (codes "set"))) }
     ensures err { IfErr result (NamesBad (first_bad_of_replay (models_of table.now) (first_value (found_of matches.now)) (texts_in matches.now (codes "set")))) }
 {
     let model = model_option(matches, table)?;
@@ -239,21 +346,13 @@ fn read_replay<'a>(
     let values = model_values(alloc, matches, table.models, model)?;
     let serial = number_option(matches, "serial", 0, MAX_COUNT, 0)?;
     let text = text_option(matches)?;
-    let program = program_option(alloc, matches, table)?;
-    let files = file_options(alloc, matches, table.files)?;
     let settings = ReplaySettings {
         config,
         serial,
         text,
     };
-    let chosen = Chosen {
-        model,
-        values,
-        files,
-        lps: lps_given(matches, config.lps),
-        program,
-    };
-    Ok((settings, chosen))
+    let chosen = chosen_of(alloc, matches, table, model, values, config.lps)?;
+    Ok(Request::Task(Task::Replay(settings), chosen))
 }
 
 /// What the parser makes of a command line of a program of these models.
@@ -288,11 +387,9 @@ fn request_of<'a>(
         return Err(Fault::BadOption("command-line"));
     };
     if name == "run" {
-        let (settings, chosen) = read_run(alloc, inner, table)?;
-        Ok(Request::Task(Task::Run(settings), chosen))
+        read_run(alloc, inner, table)
     } else if name == "replay" {
-        let (settings, chosen) = read_replay(alloc, inner, table)?;
-        Ok(Request::Task(Task::Replay(settings), chosen))
+        read_replay(alloc, inner, table)
     } else {
         Err(Fault::BadOption("command-line"))
     }

@@ -1,13 +1,14 @@
 //! What a terminal is told after a refusal: which word it was, and what is allowed; and after a run without enough turns, how many
 //! would allow more. Words of the command line are told as [`shown_word`] shows them.
 
-ghost use Rattle.std.specs.Prelude.{◌≡◌, ◌⊎◌, Some, IfSome, codes, map, string_bytes};
-ghost use Rattle.clap.specs.Words.{Text, first_value, found_of};
+ghost use Rattle.std.specs.Prelude.{◌≡◌, ◌⊎◌, List, Some, IfSome, codes, map, string_bytes};
+ghost use Rattle.clap.specs.Words.{Text, first_value, found_of, subcommand_of, subcommand_rows_of};
 ghost use Rattle.vt_options.specs.inside.Line.{texts_in};
 ghost use Rattle.vt_options.specs.inside.Programs.{SetsNothing};
 ghost use Rattle.vt_options.specs.promise.Own.{line_for};
+ghost use Rattle.vt_options.specs.promise.Requests.{Line};
 ghost use Rattle.vt_options.specs.inside.Own.{AllHaveDefaults, models_of};
-ghost use Rattle.vt_options.specs.inside.Hints.{IsHintOn, TellsTurns, finals_need, more_turns, no_command, option_takes, parser_says};
+ghost use Rattle.vt_options.specs.inside.Hints.{IsHintOn, Tells, TellsTurns, finals_need, more_turns, no_command, option_takes, parser_says};
 ghost use Rattle.vt_options.specs.inside.Shown.{IsShownSentence, IsShownWord};
 
 use crate::asking::{Request, read_request, table_matches};
@@ -127,6 +128,27 @@ fn refused_word<'a>(matches: &ArgMatches<'a>, programs: bool, name: &str) -> Opt
     matches.get_str(name)
 }
 
+/// A line on words that the parser has accepted, and that are refused under this name. None: memory was refused.
+fn hint_on_matches(
+    alloc: Global,
+    program: &str,
+    table: &ModelTable<'_>,
+    matches: &ArgMatches,
+    name: &str,
+) -> Option<String>
+    ensures { (line : Line) (words : List Text) → subcommand_rows_of matches.now ≡ subcommand_of line.app words → IfSome result (λ text. Tells program.now line words name.now (string_bytes text)) }
+{
+    let Some((_, inner)) = matches.subcommand() else {
+        return hint_on_missing(alloc, program);
+    };
+    if name == "finals" {
+        return hint_on_finals(alloc, program);
+    }
+    let word = refused_word(inner, table.programs, name)?;
+    let takes = table_takes(alloc, table, name)?;
+    hint_on_option(alloc, program, name, takes.as_str(), word)
+}
+
 /// A line for a terminal where [`read_request`] refuses a command line: which word it was, and what is allowed. There is one only for
 /// words that have no meaning or a bad option. None: the command line isn't refused, or memory was refused.
 pub fn hint<S: AsStr>(
@@ -150,15 +172,7 @@ pub fn hint<S: AsStr>(
             };
         }
     };
-    let Some((_, inner)) = matches.subcommand() else {
-        return hint_on_missing(alloc, texts.name);
-    };
-    if name == "finals" {
-        return hint_on_finals(alloc, texts.name);
-    }
-    let word = refused_word(inner, table.programs, name)?;
-    let takes = table_takes(alloc, table, name)?;
-    hint_on_option(alloc, texts.name, name, takes.as_str(), word)
+    hint_on_matches(alloc, texts.name, table, &matches, name)
 }
 
 /// A line on a run without enough turns. None: memory was refused.

@@ -62,11 +62,15 @@ pub record TellsUnreadable (program : Text) (line : Line) (words : List Text) (t
   pub shown_is : IsShownSentence said shown
   pub text_is : text ≡ parser_says program shown
 
+-- a line tells what is wrong with words that are refused under a name
+abbrev pub Tells : Text → Line → List Text → Text → Text → Type 0
+Tells program line words name text = TellsWord program line words name text ⊎ (TellsNoCommand program line words text ⊎ (TellsUnreadable program line words text ⊎ TellsFinals program name text))
+
 -- a line tells why the words are refused under a name
 pub record IsHintOn (program : Text) (line : Line) (words : List Text) (text : Text) : Type 0 where
   pub name : Text
   pub refused : IsRefusedAsOf line words name
-  pub told : TellsWord program line words name text ⊎ (TellsNoCommand program line words text ⊎ (TellsUnreadable program line words text ⊎ TellsFinals program name text))
+  pub told : Tells program line words name text
 
 -- a line tells how many turns allow more than those of the run that the words ask for
 pub record TellsTurns (program : Text) (models : Models) (words : List Text) (text : Text) : Type 0 where

@@ -1,6 +1,6 @@
 -- The options of models, as tables, and a command line with them.
 -- ---- the table of one model
-use Rattle.std.specs.Prelude.{◌≡◌, ◌⊎◌, true, List, map, Option, Some, None}
+use Rattle.std.specs.Prelude.{◌≡◌, ◌⊎◌, true, List, ◌++◌, map, Option, Some, None}
 use Rattle.std.specs.List.{list_all}
 use Rattle.clap.specs.Words.{Text}
 use Rattle.vt_key.specs.declared.fault.Fault.{Fault}
@@ -12,7 +12,8 @@ use Rattle.vt_options.specs.declared.own.ModelTable.{ModelTable}
 use Rattle.vt_options.specs.declared.texts.OptionText.{OptionText}
 use Rattle.vt_options.specs.inside.Line.{valued_names}
 use Rattle.vt_options.specs.promise.Table.{NumberOption, option}
-use Rattle.vt_options.specs.promise.Own.{number_table, has_default, Naming, Models, run_options, replay_options}
+use Rattle.vt_options.specs.promise.Line.{UsedOption, once}
+use Rattle.vt_options.specs.promise.Own.{number_table, has_default, Naming, Models, naming_names, table_names, program_options, run_options, replay_options}
 
 -- memory was refused, or a bad option is named
 abbrev pub NamesBad : Option Text → Fault → Type 0
@@ -46,6 +47,10 @@ AllHaveDefaults models = list_all (λ m. list_all has_default m.options.now) mod
 -- ---- a program in the place of a model
 
 -- ---- the command line
+
+-- the options of a subcommand that has these before and behind those of models and files
+abbrev pub options_round : Models → List UsedOption → List UsedOption → List UsedOption
+options_round models first last = map once (naming_names models.naming) ++ (first ++ (map once (table_names models.tables) ++ (map once models.files ++ (last ++ program_options models.programs))))
 
 -- the names of those that take a value
 abbrev pub run_names : Models → List Text

@@ -19,14 +19,11 @@ returns-in_err-turns-clause-ok c = if_refused _ _ c.from_residual-in_err-turns.r
 pub returns-in_err-text-clause-ok : goal.returns-in_err-text-clause-ok
 returns-in_err-text-clause-ok c = if_refused _ _ c.from_residual-in_err-text.result c.from_residual-in_err-text.ensures.1
 
-pub returns-in_err-program-clause-ok : goal.returns-in_err-program-clause-ok
-returns-in_err-program-clause-ok c = if_refused _ _ c.from_residual-in_err-program.result c.from_residual-in_err-program.ensures.1
-
 pub returns-in_err-finals-clause-ok : goal.returns-in_err-finals-clause-ok
 returns-in_err-finals-clause-ok c = if_refused _ _ c.from_residual-in_err-finals.result c.from_residual-in_err-finals.ensures.1
 
 pub returns-in_err-records-clause-ok : goal.returns-in_err-records-clause-ok
 returns-in_err-records-clause-ok c = if_refused _ _ c.from_residual-in_err-records.result c.from_residual-in_err-records.ensures.1
 
-pub returns-in_err-files-clause-ok : goal.returns-in_err-files-clause-ok
-returns-in_err-files-clause-ok c = if_refused _ _ c.from_residual-in_err-files.result c.from_residual-in_err-files.ensures.1
+pub returns-in_err-chosen-clause-ok : goal.returns-in_err-chosen-clause-ok
+returns-in_err-chosen-clause-ok c = if_refused _ _ c.from_residual-in_err-chosen.result c.from_residual-in_err-chosen.ensures.1
