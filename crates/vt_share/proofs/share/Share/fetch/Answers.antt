@@ -4,9 +4,10 @@ use Rattle.vt_key.specs.declared.letter.Mail.{Mail}
 use Rattle.vt_steps.specs.promise.Letters.{is_empty, count_colour}
 use Rattle.vt_steps.specs.promise.PartSteps.{part_after_fetch}
 use Rattle.vt_kernel.specs.inside.Held.{HeldWorker, AllOwnMail, StandsFor}
+use Rattle.vt_kernel.specs.inside.Steps.{held_after_fetch}
 use Rattle.vt_pool.specs.inside.Share.{seen}
 use Rattle.vt_share.specs.inside.Held.{share_of}
-use Rattle.vt_kernel.proofs.EmptyLemmas.{is_empty-answer}
+use Rattle.vt_kernel.proofs.EmptyLemmas.{is_empty-answer, is_empty-nothing}
 use Rattle.vt_kernel.proofs.PartLemmas.{stands-fetch}
 use Rattle.vt_share.proofs.share.Share.fetch.Goals as goal
 
@@ -55,3 +56,29 @@ returns-clause-done g c handlers part s =
           (stands-fetch c.self.view_is handlers mails c.in-Some.got part s
           (c.in-Some.ensures.sum ∙ (λ j. record { white = c.self.inside.got.white + white j; red = c.self.inside.got.red + red j }))),
     )
+
+pub returns-then-not-is_empty-clause-refused : goal.returns-then-not-is_empty-clause-refused
+returns-then-not-is_empty-clause-refused g c =
+    inl (refl, ap (λ (v : HeldWorker _ _ _). is_empty v.arrived) (sym c.self.view_is) ∙ is_empty-answer c.self.inside.arrived.items _ c.is_empty.result (search rules) c.is_empty.ensures ∙ c.if-not-is_empty.true)
+
+pub returns-then-not-is_empty-clause-kept : goal.returns-then-not-is_empty-clause-kept
+returns-then-not-is_empty-clause-kept g c = (refl, refl)
+
+pub returns-in_default-clause-kept : goal.returns-in_default-clause-kept
+returns-in_default-clause-kept g c = (refl, refl)
+
+pub returns-clause-emptied : goal.returns-clause-emptied
+returns-clause-emptied g c =
+    ap (λ v. v.items) c.swap.ensures.y_after
+    ∙ is_empty-nothing c.self.inside.arrived.items (is_empty-answer c.self.inside.arrived.items _ c.is_empty.result (search rules) c.is_empty.ensures ∙ c.if-not-is_empty.false)
+
+pub returns-clause-taken : goal.returns-clause-taken
+returns-clause-taken g c =
+    let i = c.self.inside in
+    let mails = c.args.mail.now.items in
+    let same : c.swap.new.x.items ≡ mails = ap (λ v. v.items) c.swap.ensures.x_after in
+    let white : c.of_mail.result.white ≡ count_colour White mails = c.of_mail.ensures.white ∙ ap (count_colour White) c.as_slice.ensures.value in
+    let red : c.of_mail.result.red ≡ count_colour Red mails = c.of_mail.ensures.red ∙ ap (count_colour Red) c.as_slice.ensures.value in
+    let got : c.in-Some.got ≡ record { white = i.got.white + count_colour White mails; red = i.got.red + count_colour Red mails } =
+    c.in-Some.ensures.sum ∙ (λ j. record { white = i.got.white + white j; red = i.got.red + red j }) in
+    (λ j. seen (share_of i.pool (same j) i.colour i.sent (got j) i.red_minimum i.floor)) ∙ ap (held_after_fetch mails) c.self.view_is
