@@ -26,8 +26,8 @@ pub struct Key {
     ticks: u64,
     number: u64,
     source: u32,
-    /// The priority of the time.
-    priority: u8,
+    /// The priority of the time, below 256. A whole word: a key with padding would be copied by parts of words.
+    priority: u32,
 }
 
 impl Model for Key {
@@ -57,7 +57,7 @@ impl Key {
             ticks: time.ticks(),
             number,
             source,
-            priority: time.priority(),
+            priority: u32::from(time.priority()),
         }
     }
 
@@ -65,7 +65,7 @@ impl Key {
     pub fn when(&self) -> When
         ensures { result ≡ self.now.time }
     {
-        When::new(self.ticks, self.priority)
+        When::new(self.ticks, self.priority as u8)
     }
 
     /// The logical process that sent it.
