@@ -1,6 +1,6 @@
 //! How workers wait: a bell for each, and what they count together.
 //!
-//! The bells stand apart from the station, since no call of a place waits.
+//! The bells stand apart from the inboxes, since no call of a place waits.
 //!
 //! A worker looks at its bell before it sleeps, and doesn't yield its processor meanwhile: beside other programs a worker
 //! that yields waits for a whole time slice, and the round waits with it.
@@ -8,8 +8,7 @@
 //! # Why no run sleeps for ever
 //!
 //! Each worker has a bell. It says how often it was **rung**, and one more than the rings at which its worker last
-//! went to **sleep**. Beside the bells stand how often mail was put into each inbox, how many cuts were done, and
-//! how often the round **moved on**.
+//! went to **sleep**. Beside the bells stand how many cuts were done, and how often the round **moved on**.
 //!
 //! **When a worker waits.** It reads its rings before a turn tries anything. After the turn it waits for more of
 //! them only if all of this holds:
@@ -23,7 +22,7 @@
 //!
 //! **When a worker rings**, each time after the cell is given back:
 //!
-//! 1. A worker that posts counts the mail, and rings for the receiver.
+//! 1. A worker that posts rings for the receiver.
 //! 2. Each cut is counted. Whoever makes the count a multiple of the number of workers counts that the round has
 //!    moved on, and rings for all others. In a round each worker cuts once, and counts it before it can report. So
 //!    no cut of the next round is counted before all of this one are. The multiple is reached when all cuts of the
@@ -151,8 +150,6 @@ struct Bell {
     rings: AtomicU64,
     // One more than `rings` when the worker last went to sleep.
     asleep: AtomicU64,
-    // How often mail was put into the worker's inbox.
-    mail: AtomicU64,
     after: [u64; 8],
 }
 
@@ -162,7 +159,6 @@ impl Bell {
             before: [0; 8],
             rings: AtomicU64::new(0),
             asleep: AtomicU64::new(0),
-            mail: AtomicU64::new(0),
             after: [0; 8],
         }
     }
@@ -250,18 +246,9 @@ impl Bells {
         }
     }
 
-    /// How often mail was put into the inbox of worker `w`.
-    pub(crate) fn mail(&self, w: u32) -> u64 {
-        match self.bells.get(w as usize) {
-            Some(bell) => bell.mail.load(Ordering::SeqCst),
-            None => 0,
-        }
-    }
-
-    /// Counts mail for worker `w`, and rings its bell.
-    pub(crate) fn post(&self, w: u32) {
+    /// Rings the bell of worker `w`.
+    pub(crate) fn ring(&self, w: u32) {
         if let Some(bell) = self.bells.get(w as usize) {
-            bell.mail.fetch_add(1, Ordering::SeqCst);
             bell.ring();
         }
     }

@@ -76,8 +76,6 @@ pub(crate) struct Driver<'a, M: EventModel> {
     bells: &'a Bells,
     // How often the worker's own bell had been rung before this turn.
     heard: u64,
-    // How often mail had been put into the inbox before the last fetch.
-    fetched: u64,
     // How often the round had moved on before the last cut or report that didn't find the board claimed.
     asked: Option<u64>,
     // Whether the worker has cut and hasn't reported since.
@@ -133,7 +131,6 @@ impl<'a, M: EventModel> Driver<'a, M> {
             pace: Pace::new(config.workers),
             bells,
             heard: 0,
-            fetched: 0,
             asked: None,
             has_cut: false,
             busy: false,
@@ -243,7 +240,7 @@ impl<'a, M: EventModel> Driver<'a, M> {
             }
             let answer = self.station.post(&mut self.place, &mut self.kernel, v);
             if self.is_done(answer)? {
-                self.bells.post(v);
+                self.bells.ring(v);
             }
             next = v + 1;
         }
@@ -386,17 +383,16 @@ impl<'a, M: EventModel> Driver<'a, M> {
         self.undone = self.undone.saturating_add(undone);
     }
 
-    /// Fetches the mail of the worker's inbox, if any was put there since the last fetch.
+    /// Fetches the mail of the worker's inbox, unless mail that arrived before is not accepted yet.
     fn fetch(&mut self) -> Result<(), Fault>
         ensures part { IsPartOfTurn self.old self.new result }
     {
-        let mail = self.bells.mail(self.number);
-        if mail == self.fetched || self.kernel.arrived_len() > 0 {
+        if self.kernel.arrived_len() > 0 {
             return Ok(());
         }
         let answer = self.station.fetch(&mut self.place, &mut self.kernel);
-        if self.is_done(answer)? {
-            self.fetched = mail;
+        let _ = self.is_done(answer)?;
+        if self.kernel.arrived_len() > 0 {
             self.pace.disturb();
         }
         Ok(())
