@@ -4,7 +4,6 @@ mod Further
 mod Lending
 pub mod Links
 mod Owning
-mod Paths
 mod Splits
 pub mod TrailLemmas
 mod TrailsPaths

@@ -1,13 +1,13 @@
 -- What becomes of links where nodes are joined and parted.
 use Rattle.std.proofs.Common.{◌≡◌, refl, sym, ap, ◌∙◌, subst, arith}
 use Rattle.std.specs.Prelude.{◌-◌, ◌<◌, List, [], ◌∷◌, ◌++◌, length, map, take, drop, reverse, Option, Some, None, slice_index_or}
-use Rattle.std.proofs.lemmas.List.{take_at, drop_at, length-append, append_assoc, map-append, reverse-append}
+use Rattle.std.proofs.lemmas.List.{append-nil, take_at, drop_at, length-append, append_assoc, map-append, reverse-append}
 use Rattle.std.proofs.lemmas.Option.{none-some}
 use Rattle.std.specs.Option.{unwrap_or}
 use denote.RawPtr.{Ptr, null_ptr}
 use Rattle.vt_nodes.specs.inside.Blocks.{addresses, address_at}
 use Rattle.vt_nodes.specs.declared.node.Node.{Node}
-use Rattle.vt_nodes.specs.inside.Linked.{NodeAt, first_or, last_or, with_next, with_prev, items, LeadOn, LeadBack, IsChain, IsAddress}
+use Rattle.vt_nodes.specs.inside.Linked.{NodeAt, first_or, last_or, with_next, with_prev, items, LeadOn, LeadBack, advanced, IsChain, IsBeginning, IsPosition}
 
 -- ---- ends
 
@@ -159,7 +159,7 @@ module _ {X : Type 0} where
   on-front z [] cs on = tt
   on-front z (b ∷ bs) cs on = (on.0 ∙ first-append z bs cs, on-front z bs cs on.1)
 
-  on-back : (z : Option Ptr) (bs cs : List (NodeAt X)) → LeadOn (bs ++ cs) z → LeadOn cs z
+  pub on-back : (z : Option Ptr) (bs cs : List (NodeAt X)) → LeadOn (bs ++ cs) z → LeadOn cs z
   on-back z [] cs on = on
   on-back z (b ∷ bs) cs on = on-back z bs cs on.1
 
@@ -207,62 +207,73 @@ module _ {X : Type 0} where
         on-append None front cs (subst (LeadOn front) at (on-with_next next z (b ∷ bs) on)) behind,
       )
 
-  front-more : (h t last next : Option Ptr) (b : NodeAt X) (bs ahead : List (NodeAt X)) → IsAddress h t last next (b ∷ bs) ahead → IsChain h last (with_next None (b ∷ bs))
-  front-more h t last next b bs ahead address = record {
-    head_is = address.chain.head_is ∙ sym (first-with_next None None (b ∷ bs));
-    tail_is = address.last_is ∙ sym (last-with_next None None (b ∷ bs));
-    on = on-with_next (first_or None ahead) None (b ∷ bs) (on-front None (b ∷ bs) ahead address.chain.on);
-    back = back-with_next None None (b ∷ bs) (back-front None (b ∷ bs) ahead address.chain.back);
-  }
-
-  back-more : (h t last next : Option Ptr) (passed : List (NodeAt X)) (b : NodeAt X) (bs : List (NodeAt X)) → IsAddress h t last next passed (b ∷ bs) → IsChain next t (with_prev None (b ∷ bs))
-  back-more h t last next passed b bs address = record {
-    head_is = address.next_is;
-    tail_is = address.chain.tail_is ∙ last-append None passed (b ∷ bs);
-    on = on-with_prev None None (b ∷ bs) (on-back None passed (b ∷ bs) address.chain.on);
-    back = back-with_prev (last_or None passed) None (b ∷ bs) (back-back None passed (b ∷ bs) address.chain.back);
-  }
-
   -- a chain is parted at a position: what was passed is one, and what is ahead is one
-  pub front-chain : (h t last next : Option Ptr) (p : Ptr) (passed ahead : List (NodeAt X)) → last ≡ Some p → IsAddress h t last next passed ahead → IsChain h last (with_next None passed)
-  front-chain h t last next p [] ahead is address = absurd (none-some p (sym address.last_is ∙ is))
-  front-chain h t last next p (b ∷ bs) ahead is address = front-more h t last next b bs ahead address
+  pub front-chain : (h t last next : Option Ptr) (p : Ptr) (passed ahead : List (NodeAt X)) → last ≡ Some p → IsPosition last next passed ahead → IsChain h t (passed ++ ahead) → IsChain h last (with_next None passed)
+  front-chain h t last next p [] ahead is position chain = absurd (none-some p (sym position.last_is ∙ is))
+  front-chain h t last next p (b ∷ bs) ahead is position chain = record {
+    head_is = chain.head_is ∙ sym (first-with_next None None (b ∷ bs));
+    tail_is = position.last_is ∙ sym (last-with_next None None (b ∷ bs));
+    on = on-with_next (first_or None ahead) None (b ∷ bs) (on-front None (b ∷ bs) ahead chain.on);
+    back = back-with_next None None (b ∷ bs) (back-front None (b ∷ bs) ahead chain.back);
+  }
 
-  pub back-chain : (h t last next : Option Ptr) (p : Ptr) (passed ahead : List (NodeAt X)) → next ≡ Some p → IsAddress h t last next passed ahead → IsChain next t (with_prev None ahead)
-  back-chain h t last next p passed [] is address = absurd (none-some p (sym address.next_is ∙ is))
-  back-chain h t last next p passed (b ∷ bs) is address = back-more h t last next passed b bs address
-
-  -- where no node was passed, all are ahead
-  pub all-ahead : (h t last next : Option Ptr) (passed ahead : List (NodeAt X)) → last ≡ None → IsAddress h t last next passed ahead → (passed ≡ []) × IsChain h t ahead
-  all-ahead h t last next [] ahead is address = (refl, address.chain)
-  all-ahead h t last next (b ∷ bs) ahead is address = absurd (last-some b bs (sym address.last_is ∙ is))
+  pub back-chain : (h t last next : Option Ptr) (p : Ptr) (passed ahead : List (NodeAt X)) → next ≡ Some p → IsPosition last next passed ahead → IsChain h t (passed ++ ahead) → IsChain next t (with_prev None ahead)
+  back-chain h t last next p passed [] is position chain = absurd (none-some p (sym position.next_is ∙ is))
+  back-chain h t last next p passed (b ∷ bs) is position chain = record {
+    head_is = position.next_is;
+    tail_is = chain.tail_is ∙ last-append None passed (b ∷ bs);
+    on = on-with_prev None None (b ∷ bs) (on-back None passed (b ∷ bs) chain.on);
+    back = back-with_prev (last_or None passed) None (b ∷ bs) (back-back None passed (b ∷ bs) chain.back);
+  }
 
   -- ---- positions
 
+  -- where no node was passed, all are ahead
+  pub all-ahead : (last next : Option Ptr) (passed ahead : List (NodeAt X)) → last ≡ None → IsPosition last next passed ahead → (passed ≡ []) × (passed ++ ahead ≡ ahead)
+  all-ahead last next [] ahead is position = (refl, refl)
+  all-ahead last next (b ∷ bs) ahead is position = absurd (last-some b bs (sym position.last_is ∙ is))
+
+  -- where no node is ahead, all were passed
+  pub all-passed : (last next : Option Ptr) (passed ahead : List (NodeAt X)) → next ≡ None → IsPosition last next passed ahead → (ahead ≡ []) × (passed ++ ahead ≡ passed)
+  all-passed last next passed [] is position = (refl, append-nil passed)
+  all-passed last next passed (b ∷ ahead) is position = absurd (none-some b.0 (sym is ∙ position.next_is))
+
   -- one node further
-  pub next-address : (h t last next : Option Ptr) (p : Ptr) (passed ahead : List (NodeAt X)) (node : Node X) → next ≡ Some p → IsAddress h t last next passed ahead
-      → node ≡ (slice_index_or (take 1 ahead) 0 (p, node)).1 → IsAddress h t next node.next (passed ++ take 1 ahead) (drop 1 ahead)
-  next-address h t last next p passed [] node is address read = absurd (none-some p (sym address.next_is ∙ is))
-  next-address h t last next p passed (b ∷ ahead) node is address read = record {
-    chain = subst (IsChain h t) (sym (append_assoc passed (b ∷ []) ahead)) address.chain;
-    last_is = address.next_is ∙ sym (last-append None passed (b ∷ []));
-    next_is = ap (λ n. n.next) read ∙ (on-back None passed (b ∷ ahead) address.chain.on).0;
+  pub next-position : (last next : Option Ptr) (p : Ptr) (passed ahead : List (NodeAt X)) (node : Node X) → next ≡ Some p → IsPosition last next passed ahead
+      → node ≡ (slice_index_or (take 1 ahead) 0 (p, node)).1 → IsPosition next node.next (passed ++ take 1 ahead) (drop 1 ahead)
+  next-position last next p passed [] node is position read = absurd (none-some p (sym position.next_is ∙ is))
+  next-position last next p passed (b ∷ ahead) node is position read = record {
+    on = subst (λ (bs : List (NodeAt X)). LeadOn bs None) (sym (append_assoc passed (b ∷ []) ahead)) position.on;
+    last_is = position.next_is ∙ sym (last-append None passed (b ∷ []));
+    next_is = ap (λ n. n.next) read ∙ (on-back None passed (b ∷ ahead) position.on).0;
   }
 
+  pub one-more : (passed ahead : List (NodeAt X)) → (items (passed ++ take 1 ahead), items (drop 1 ahead)) ≡ advanced (items passed, items ahead)
+  one-more passed [] = ap (λ (bs : List (NodeAt X)). (items bs, [])) (append-nil passed)
+  one-more passed (b ∷ ahead) = ap (λ (xs : List X). (xs, items ahead)) (items-append passed (b ∷ []))
+
   -- before the last node
-  pub last-address : (h t : Option Ptr) (p : Ptr) (bs front end : List (NodeAt X)) (node : Node X) → t ≡ Some p → IsChain h t bs → front ≡ take (length bs - 1) bs → end ≡ drop (length bs - 1) bs
-      → node ≡ (slice_index_or end 0 (p, node)).1 → IsAddress h t node.prev t front end
-  last-address h t p bs front end node is chain front_is end_is read =
+  pub last-position : (h t : Option Ptr) (p : Ptr) (bs front end : List (NodeAt X)) (node : Node X) → t ≡ Some p → IsChain h t bs → front ≡ take (length bs - 1) bs → end ≡ drop (length bs - 1) bs
+      → node ≡ (slice_index_or end 0 (p, node)).1 → IsPosition node.prev t front end
+  last-position h t p bs front end node is chain front_is end_is read =
       let l = last-of p bs (sym chain.tail_is ∙ is) in
       let f : front ≡ l.front = front_is ∙ take-last p bs l in
       let e : end ≡ (p, l.content) ∷ [] = end_is ∙ drop-last p bs l in
       let same : node ≡ l.content = read ∙ ap (λ (cs : List (NodeAt X)). (slice_index_or cs 0 (p, node)).1) e in
       let whole : IsChain h t (l.front ++ (p, l.content) ∷ []) = subst (IsChain h t) l.is chain in
       record {
-        chain = subst (IsChain h t) (λ i. sym f i ++ sym e i) whole;
+        on = subst (λ (cs : List (NodeAt X)). LeadOn cs None) (λ i. sym f i ++ sym e i) whole.on;
         last_is = ap (λ n. n.prev) same ∙ (back-back None l.front ((p, l.content) ∷ []) whole.back).0 ∙ ap (last_or None) (sym f);
         next_is = is ∙ ap (first_or None) (sym e);
       }
+
+  -- what was passed of a trail is its beginning
+  pub passed-beginning : (head last next : Option Ptr) (passed ahead : List (NodeAt X)) → head ≡ first_or None (passed ++ ahead) → IsPosition last next passed ahead → IsBeginning head last next passed
+  passed-beginning head last next passed ahead head_is position = record {
+    head_is = head_is ∙ first-append None passed ahead ∙ ap (λ n. first_or n passed) (sym position.next_is);
+    last_is = position.last_is;
+    on = subst (LeadOn passed) (sym position.next_is) (on-front None passed ahead position.on);
+  }
 
   -- ---- all but the last
 

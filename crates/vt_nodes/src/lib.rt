@@ -16,32 +16,33 @@
 //! - `blocks` owns memory and knows nothing of links. It has the only raw reads.
 //! - `link` is a pointer that may be null.
 //! - `node` has the links and the only raw write.
-//! - `chain` is nodes that are linked both ways, with their two ends; `cursor` is a position in a chain, where it can
-//!   be split.
-//! - `trail` is nodes that are linked one way; `path` is a position in a trail; `trails` is trails whose first nodes
-//!   lead to each other; `passing` is a position among trails.
+//! - `chain` is nodes that are linked both ways, with their two ends; `trail` is nodes that are linked one way; `trails`
+//!   is trails whose first nodes lead to each other.
+//! - `position` is a position in a chain or a trail. By it `splitting` splits a chain, and `path` parts a trail.
+//!   `passing` is a position among trails.
 //!
 //! Only `blocks` and one function of `node` are proved by hand. The rest is plain code that follows no raw pointer.
 #![tactic(auto)]
 
 mod blocks;
 mod chain;
-mod cursor;
 mod link;
 mod node;
 mod passing;
 mod path;
+mod position;
 mod predicate;
+mod splitting;
 mod trail;
 mod trails;
 
 pub use blocks::Blocks;
 pub use chain::Chain;
-pub use cursor::{split_at, split_at_first, take_first, take_last};
 pub use link::Link;
 pub use node::Node;
 pub use passing::{Passed, pass_trails};
 pub use path::{Beginning, part_at_first};
 pub use predicate::Predicate;
+pub use splitting::{split_at, split_at_first, take_first, take_last};
 pub use trail::Trail;
 pub use trails::Trails;

@@ -1,8 +1,9 @@
 //! A node of a list, and the writes of its links.
 
-ghost use Rattle.std.specs.Prelude.{◌≡◌, [], ◌∷◌, map, None, Some};
+ghost use Rattle.std.specs.Prelude.{◌≡◌, [], ◌∷◌, map, slice_get, None, Some};
+ghost use Rattle.std.specs.Option.{option_copied};
 ghost use Rattle.vt_nodes.specs.inside.Blocks.{addresses};
-ghost use Rattle.vt_nodes.specs.inside.Linked.{first_or, last_or, with_next, with_prev};
+ghost use Rattle.vt_nodes.specs.inside.Linked.{first_or, items, last_or, with_next, with_prev};
 
 use crate::blocks::Blocks;
 use crate::link::Link;
@@ -16,6 +17,17 @@ pub struct Node<T> {
     pub prev: Link,
     /// The item.
     pub item: T,
+}
+
+/// The item of the first node, which lies at `head`; None if there is no node.
+pub(crate) fn read_first<T>(head: Link, nodes: &Blocks<Node<T>>) -> Option<&T>
+    requires { head ≡ first_or None nodes.now.owned }
+    ensures { option_copied result ≡ slice_get (items nodes.now.owned) 0 }
+{
+    let Some(first) = head.address() else {
+        return None;
+    };
+    Some(&nodes.get(first).item)
 }
 
 /// The one node, which lies at `at`, with both links set.

@@ -1,22 +1,23 @@
 //! A position among trails.
 
-ghost use Rattle.std.specs.Prelude.{◌≡◌, [], ◌++◌, IfNone};
+ghost use Rattle.std.specs.Prelude.{◌≡◌, [], ◌++◌};
 ghost use Rattle.std.specs.Option.{option_copied};
-ghost use Rattle.vt_nodes.specs.inside.First.{before_first, from_first, first_fails};
+ghost use Rattle.vt_nodes.specs.inside.First.{before_first, from_first};
 ghost use Rattle.vt_nodes.specs.inside.Linked.{advanced};
 ghost use Rattle.vt_nodes.specs.inside.Lines.{first_item, begins_with};
 
 use crate::blocks::Blocks;
 use crate::link::Link;
-use crate::node::{Node, set_first_prev};
-use crate::predicate::Predicate;
+use crate::node::{Node, read_first, set_first_prev};
+use crate::predicate::{Predicate, fails};
 use crate::trails::Trails;
 use std::marker::Model;
 
 /// Trails with a position among them. A clause sees the trails that were passed, and those ahead.
 ///
-/// The nodes stay linked as they were. Going on reads one link. The last trail that was passed is kept apart from those
-/// before it, since its first node is written where other trails come behind it.
+/// The nodes stay linked as they were. Going on reads one link. It is no `Position`, since the way from a trail to the
+/// next one is a back link. The last trail that was passed is kept apart from those before it, since its first node is
+/// written where other trails come behind it.
 pub(crate) struct TrailsPath<T> {
     head: Link,
     last: Link,
@@ -56,37 +57,26 @@ impl<T> TrailsPath<T> {
 
     /// The first item of the next trail; None only at the end.
     fn peek(&self) -> Option<&T>
-        ensures item { option_copied result ≡ first_item self.now.1 }
-        ensures none { IfNone result (self.now.1 ≡ []) }
+        ensures { option_copied result ≡ first_item self.now.1 }
     {
-        let Some(next) = self.next.address() else {
-            return None;
-        };
-        Some(&self.ahead.get(next).item)
+        read_first(self.next, &self.ahead)
     }
 
     /// One trail further; unchanged at the end.
     fn advance(self) -> TrailsPath<T>
         ensures { result ≡ advanced self }
     {
+        let Some(at) = self.next.address() else {
+            return self;
+        };
         let TrailsPath {
             head,
-            last,
+            last: _,
             next,
             before,
             line,
             ahead,
         } = self;
-        let Some(at) = next.address() else {
-            return TrailsPath {
-                head,
-                last,
-                next,
-                before,
-                line,
-                ahead,
-            };
-        };
         let after = ahead.get(at).prev;
         let (first, rest) = ahead.split();
         TrailsPath {
@@ -96,16 +86,6 @@ impl<T> TrailsPath<T> {
             before: before.append(line),
             line: first,
             ahead: rest,
-        }
-    }
-
-    /// Whether there is a next trail, and its first item fails the test.
-    fn next_fails<P: Predicate<T>>(&self, test: &P) -> bool
-        ensures { result ≡ first_fails (begins_with (P.passes test.now)) self.now.1 }
-    {
-        match self.peek() {
-            Some(item) => !test.test(item),
-            None => false,
         }
     }
 
@@ -196,7 +176,7 @@ pub fn pass_trails<T, P: Predicate<T>>(trails: Trails<T>, test: &P) -> (Passed<T
     ensures whole { trails ≡ result.0 ++ result.1 }
 {
     let mut path = TrailsPath::at_front(trails);
-    while path.next_fails(test) {
+    while fails(test, path.peek()) {
         path = path.advance();
     }
     path.part()

@@ -6,7 +6,7 @@ ghost use Rattle.std.specs.Option.{option_copied};
 use crate::blocks::Blocks;
 use crate::chain::Chain;
 use crate::link::Link;
-use crate::node::{Node, set_last_next};
+use crate::node::{Node, read_first, set_last_next};
 use std::alloc::Global;
 use std::marker::Model;
 use std::mem::replace;
@@ -78,10 +78,7 @@ impl<T> Trail<T> {
     pub fn first(&self) -> Option<&T>
         ensures { option_copied result ≡ slice_get self.now 0 }
     {
-        let Some(head) = self.head.address() else {
-            return None;
-        };
-        Some(&self.nodes.get(head).item)
+        read_first(self.head, &self.nodes)
     }
 
     /// The first node, and the others. It reads and writes none of the others.

@@ -6,7 +6,7 @@ ghost use Rattle.vt_nodes.specs.inside.Lines.{first_item};
 
 use crate::blocks::Blocks;
 use crate::link::Link;
-use crate::node::{Node, set_first_prev};
+use crate::node::{Node, read_first, set_first_prev};
 use crate::trail::Trail;
 use std::marker::Model;
 use std::mem::replace;
@@ -83,10 +83,7 @@ impl<T> Trails<T> {
         ensures item { option_copied result ≡ first_item self.now }
         ensures some { IfNone result (self.now ≡ []) }
     {
-        let Some(head) = self.head.address() else {
-            return None;
-        };
-        Some(&self.nodes.get(head).item)
+        read_first(self.head, &self.nodes)
     }
 
     /// The first trail, and the others. It reads the trail's first node, and writes none.

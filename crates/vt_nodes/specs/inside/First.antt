@@ -1,5 +1,5 @@
 -- The first item that passes a test: what stands before it, and from it on.
-use Rattle.std.specs.Prelude.{Bool, false, not, List, [], ◌∷◌, if◌then◌else◌}
+use Rattle.std.specs.Prelude.{Bool, false, not, Option, Some, None, List, [], ◌∷◌, if◌then◌else◌}
 
 module _ {X : Type 0} (test : X → Bool) where
   -- the items before the first that passes, or all where none does
@@ -12,7 +12,7 @@ module _ {X : Type 0} (test : X → Bool) where
   from_first [] = []
   from_first (x ∷ xs) = if test x then x ∷ xs else from_first xs
 
-  -- whether there is a first item, and it fails
-  abbrev pub first_fails : List X → Bool
-  first_fails [] = false
-  first_fails (x ∷ xs) = not (test x)
+  -- whether there is an item, and it fails
+  abbrev pub item_fails : Option X → Bool
+  item_fails None = false
+  item_fails (Some x) = not (test x)

@@ -55,20 +55,14 @@ module _ {X : Type 0} where
     pub on : LeadOn bs None
     pub back : LeadBack None bs
 
-  -- the nodes are a chain, and a position among them is after `last` and before `next`
-  pub record IsAddress (head tail last next : Option Ptr) (passed ahead : List (NodeAt X)) : Type 0 where
-    pub chain : IsChain head tail (passed ++ ahead)
-    pub last_is : last ≡ last_or None passed
-    pub next_is : next ≡ first_or None ahead
-
   -- the nodes lead on one way from head to last, and the last one to `next`, where what follows begins
   pub record IsBeginning (head last next : Option Ptr) (bs : List (NodeAt X)) : Type 0 where
     pub head_is : head ≡ first_or next bs
     pub last_is : last ≡ last_or None bs
     pub on : LeadOn bs next
 
-  -- the nodes of a trail, of which some were passed and the others are ahead
-  pub record IsPath (head last next : Option Ptr) (passed ahead : List (NodeAt X)) : Type 0 where
-    pub begun : IsBeginning head last next passed
+  -- the nodes lead on to their end, and a position among them is after `last` and before `next`
+  pub record IsPosition (last next : Option Ptr) (passed ahead : List (NodeAt X)) : Type 0 where
+    pub on : LeadOn (passed ++ ahead) None
+    pub last_is : last ≡ last_or None passed
     pub next_is : next ≡ first_or None ahead
-    pub on : LeadOn ahead None

@@ -1,13 +1,18 @@
 use Rattle.std.proofs.lemmas.List.{take-append-drop}
-use Rattle.std.proofs.Common.{◌≡◌, ◌++◌, take, drop, sym, ap, ◌∙◌, arith}
+use Rattle.std.proofs.Common.{◌≡◌, ◌++◌, take, drop, sym, ap, ◌∙◌, subst, arith}
+use Rattle.vt_nodes.specs.inside.Linked.{IsChain}
 use Rattle.vt_nodes.proofs.Splits.{advanced-at, parted-past}
-use Rattle.vt_nodes.proofs.cursor.split_at.Goals as goal
-use Rattle.vt_nodes.proofs.cursor.split_at.Goals.{else-loop-test, then-loop-test+then-is_at_end}
+use Rattle.vt_nodes.proofs.splitting.split_at.Goals as goal
+use Rattle.vt_nodes.proofs.splitting.split_at.Goals.{else-loop-test, then-loop-test+then-is_at_end}
 
 pub loop-preserved : goal.loop-preserved
 loop-preserved g c =
-    let further = c.advance-cursor.ensures ∙ advanced-at c.loop.counter c.args.chain c.loop.cursor c.loop.invariant.0 c.loop.invariant.1 in
-    (ap (λ p. p.0) further, ap (λ p. p.1) further)
+    let at = c.loop.invariant in let old = c.loop.position in
+    let further = c.advance-position.ensures.items ∙ advanced-at c.loop.counter c.args.chain (old.0, old.1) at.0 at.1 in
+    (ap (λ p. p.0) further, ap (λ p. p.1) further, c.advance-position.ensures.nodes ∙ at.2)
+
+pub split-requires : goal.split-requires
+split-requires g c = subst (IsChain c.chain.inside.head c.chain.inside.tail) (sym (c.loop.invariant.2 ∙ ap (λ v. v.2) c.at_front-position.ensures)) c.chain.invariant
 
 pub returns-clause-parts : goal.returns-clause-parts
 returns-clause-parts g c =

@@ -1,5 +1,5 @@
 use Rattle.std.specs.Prelude.{length, ◌-◌}
-use Rattle.vt_nodes.proofs.cursor.Cursor.before_last.Given as goal
+use Rattle.vt_nodes.proofs.splitting.before_last.Given as goal
 
 abbrev pub ghost-split : goal.ghost-split
 ghost-split g a = length a.self.owned - 1

@@ -1,4 +1,4 @@
-use Rattle.vt_nodes.proofs.cursor.Cursor.advance.Given as goal
+use Rattle.vt_nodes.proofs.position.Position.advance.Given as goal
 
 abbrev pub ghost-split : goal.ghost-split
 ghost-split g a = 1

@@ -1,4 +1,4 @@
-use Rattle.vt_nodes.proofs.path.Path.peek.Given as goal
+use Rattle.vt_nodes.proofs.node.read_first.Given as goal
 
 abbrev pub ghost-get : goal.ghost-get
 ghost-get g a = 0

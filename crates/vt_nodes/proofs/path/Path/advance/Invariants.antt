@@ -1,7 +1,0 @@
-use Rattle.vt_nodes.proofs.path.Path.advance.Given as goal
-
-abbrev pub ghost-split : goal.ghost-split
-ghost-split g a = 1
-
-abbrev pub ghost-get : goal.ghost-get
-ghost-get g a = 0
