@@ -1,5 +1,5 @@
 -- Commit and Close on a kernel and the book, by what the kernel's and the book's calls do and refuse.
-use Rattle.std.proofs.Common.{◌≡◌, ℕ, inl, inr, Bool, true, false, ◌&&◌, List, [], ◌∷◌, refl, sym, ◌∙◌, ap, subst, arith, Some, None, Result, Ok, Err, IfErr, slice_get}
+use Rattle.std.proofs.Common.{◌≡◌, ℕ, inl, inr, Bool, true, false, ◌&&◌, List, [], ◌∷◌, refl, sym, ◌∙◌, ap, subst, arith, Some, None, Result, Ok, Err, IfErr, MatchResult, slice_get}
 use Rattle.std.specs.List.{list_all, AllByRecursion}
 use Rattle.std.proofs.Math.Logic.{∥∥₁_elim}
 use Rattle.std.proofs.Props.{props}
@@ -28,7 +28,7 @@ use Rattle.vt_steps.proofs.lists.Indices.{get-within}
 use Rattle.vt_kernel.specs.inside.Held.{HeldWorker, StandsFor}
 use Rattle.vt_book.specs.inside.Books.{RunBook, may_hand, is_within, are_within, refusal_of_hand, refusal_where}
 use Rattle.vt_book.proofs.CommitRows.{IsBetween, commit-between}
-use Rattle.vt_cells.specs.inside.Calls.{Acts, IsCellStepOf, IsBatchOf, AreReached, AreOfOneWorld, CommitsTo, IsHandInOf, IsClosingRefusal}
+use Rattle.vt_cells.specs.inside.Calls.{Acts, IsCellStepOf, IsBatchOf, AreReached, AreOfOneWorld, CommitsTo, IsHandInOf, IsClosingRefusal, answer_as}
 use Rattle.vt_cells.proofs.ActLemmas.{act-commit, act-commit_closed, act-close, act-not_close, act-close_closed}
 
 -- rows that lie between two times, tested
@@ -99,41 +99,40 @@ module _ {S P K : Type 0} {handlers : Handlers S P K} {k : HeldWorker S P K} (bo
         let may = subst (λ v. may_hand book v rows k.floor ≡ true) whose (∥∥₁_elim reaches.1 (Prim.hlevel props) (λ r. may-rows reaches.0 r rows (ready handlers r.part r.stands))) in
         ap (refusal_of_hand book w rows) floor_is ∙ unrefused book.book.is_closed (may_hand book w rows k.floor) is_open may
 
-module _ {S P K : Type 0} (handlers : Handlers S P K) (k : HeldWorker S P K) (w : ℕ) (book : Book) where
+module _ {S P K : Type 0} (handlers : Handlers S P K) (k : HeldWorker S P K) (w : ℕ) (old : RunBook) where
   -- what a closed book refuses
-  pub hand-closed : book.is_closed ≡ true → IsHandInOf handlers k.config w k book book (Err Closed)
+  pub hand-closed : old.book.is_closed ≡ true → IsHandInOf handlers k.config w k old.book old.book (Err Closed)
   hand-closed closed = record {
     done = tt;
-    refused = λ part s. inl (ap (λ (x : Acted P). x.answer) (act-commit_closed (sim_of handlers k) w part book closed));
+    refused = λ part s. inl (ap (λ (x : Acted P). x.answer) (act-commit_closed (sim_of handlers k) w part old.book closed));
     unchanged = refl;
   }
 
-  module _ (may : may_commit (slice_get book.floors w) k.floor ≡ true) (is_open : book.is_closed ≡ false) where
+  module _ (may : may_commit (slice_get old.book.floors w) k.floor ≡ true) (is_open : old.book.is_closed ≡ false) where
     acts : (part : Part P) → StandsFor handlers k part
-        → act (sim_of handlers k) (Commit w) part (in_book book) ≡ record { part = part_after_commit part; cell = in_book (with_rows w (rows_of_commit (sim_of handlers k) w part) part.floor book); answer = Ok Done }
-    acts part s = act-commit (sim_of handlers k) w part book is_open (ap (may_commit (slice_get book.floors w)) s.floor ∙ may)
+        → act (sim_of handlers k) (Commit w) part (in_book old.book) ≡ record { part = part_after_commit part; cell = in_book (with_rows w (rows_of_commit (sim_of handlers k) w part) part.floor old.book); answer = Ok Done }
+    acts part s = act-commit (sim_of handlers k) w part old.book is_open (ap (may_commit (slice_get old.book.floors w)) s.floor ∙ may)
 
     -- one for which memory was refused
-    pub hand-memory : {left : Book} {fault : Fault} → fault ≡ Memory → left ≡ book → IsHandInOf handlers k.config w k book left (Err fault)
+    pub hand-memory : {new : RunBook} {fault : Fault} → fault ≡ Memory → new ≡ old → IsHandInOf handlers k.config w k old.book new.book (Err fault)
     hand-memory is same = record {
       done = tt;
       refused = λ part s. inr (Done, ap (λ (x : Acted P). x.answer) (acts part s), inr (is, tt, λ past. past));
-      unchanged = same;
+      unchanged = ap (λ (b : RunBook). b.book) same;
     }
 
-    -- and one that the book has taken
-    pub hand-done : k.worker ≡ w → {left : Book} {rows : List Row} {floor : Time} → floor ≡ k.floor → IsBatchOf k (Ok rows) → left ≡ with_rows w rows floor book → IsHandInOf handlers k.config w k book left (Ok Done)
-    hand-done whose {left} {rows} {floor} floor_is ready left_is = record {
-      done = (
-        refl,
-        λ part s.
-            (let is : with_rows w (rows_of_commit (sim_of handlers k) w part) part.floor book ≡ left =
-            (λ i. with_rows w (sym (ready handlers part s ∙ ap (λ v. rows_of_commit (sim_of handlers k) v part) whose) i) ((s.floor ∙ sym floor_is) i) book) ∙ sym left_is in
-            acts part s ∙ ap (λ b. (let a : Acted P = record { part = part_after_commit part; cell = in_book b; answer = Ok Done } in a)) is),
-      );
+    -- and one that the book has taken, or for which it was refused memory
+    pub hand-tried : k.worker ≡ w → (new : RunBook) {rows : List Row} {floor : Time} → floor ≡ k.floor → IsBatchOf k (Ok rows) → (result : Result (Unit {0}) Fault)
+        → MatchResult result (λ _. new ≡ record old { book = with_rows w rows floor old.book }) (λ fault. fault ≡ Memory) → IfErr result (λ _. new ≡ old) → IsHandInOf handlers k.config w k old.book new.book result
+    hand-tried whose new {rows} {floor} floor_is ready (Ok x) is same = record {
+      done = λ part s.
+          (let left : with_rows w (rows_of_commit (sim_of handlers k) w part) part.floor old.book ≡ new.book =
+          (λ i. with_rows w (sym (ready handlers part s ∙ ap (λ v. rows_of_commit (sim_of handlers k) v part) whose) i) ((s.floor ∙ sym floor_is) i) old.book) ∙ ap (λ (b : RunBook). b.book) (sym is) in
+          acts part s ∙ ap (λ b. (let a : Acted P = record { part = part_after_commit part; cell = in_book b; answer = Ok Done } in a)) left);
       refused = λ part s. tt;
       unchanged = tt;
     }
+    hand-tried whose new floor_is ready (Err fault) is same = hand-memory is same
 
 module _ {S P K : Type 0} (handlers : Handlers S P K) {k new : HeldWorker S P K} {w : ℕ} where
   -- a kernel that forgets what it has committed
@@ -141,10 +140,10 @@ module _ {S P K : Type 0} (handlers : Handlers S P K) {k new : HeldWorker S P K}
       → ((part : Part P) → StandsFor handlers k part → StandsFor handlers new (part_after_commit part)) → Acts handlers config (Commit w) Done k found new left
   commit-acts config to same_worker same_config forgets = record { acts = λ part s. (part_after_commit part, to part s, forgets part s); worker = same_worker; config_is = same_config }
 
-  pub commit-done : (config : Config) {book left : Book} (reply : Reply) → IsHandInOf handlers config w k book left (Ok reply) → new.worker ≡ k.worker → new.config ≡ k.config
-      → ((part : Part P) → StandsFor handlers k part → StandsFor handlers new (part_after_commit part)) → IsCellStepOf handlers config (Commit w) k new (in_book book) (in_book left) (Ok reply)
-  commit-done config {book} {left} reply h same_worker same_config forgets = record {
-    done = subst (λ r. Acts handlers config (Commit w) r k (in_book book) new (in_book left)) (sym h.done.0) (commit-acts config h.done.1 same_worker same_config forgets);
+  pub commit-done : (config : Config) {book left : Book} {x : Unit {0}} → IsHandInOf handlers config w k book left (Ok x) → new.worker ≡ k.worker → new.config ≡ k.config
+      → ((part : Part P) → StandsFor handlers k part → StandsFor handlers new (part_after_commit part)) → IsCellStepOf handlers config (Commit w) k new (in_book book) (in_book left) (Ok Done)
+  commit-done config h same_worker same_config forgets = record {
+    done = commit-acts config h.done same_worker same_config forgets;
     within = λ part s past. past;
     refused = λ part s. tt;
     unchanged = tt;
@@ -157,22 +156,18 @@ module _ {S P K : Type 0} (handlers : Handlers S P K) {k new : HeldWorker S P K}
 
 -- ---- closes
 
-module _ {S P : Type 0} (sim : Simulation S P) (part : Part P) (old new : RunBook) (ends : sim.end ≡ old.end) where
-  -- a close of an open book whose floor is the end
-  pub close-done : (old.book.is_closed ≡ false) × (may_close old.end old.book ≡ true) × (new ≡ record old { book = closed_book old.book })
-      → act sim Close part (in_book old.book) ≡ record { part = part; cell = in_book new.book; answer = Ok Done }
-  close-done c =
-      act-close sim part old.book c.0 (ap (λ t. may_close t old.book) ends ∙ c.1) ∙ ap (λ (b : RunBook). (let a : Acted P = record { part = part; cell = in_book b.book; answer = Ok Done } in a)) (sym c.2)
-
-  -- and one that is refused
-  pub close-refused : (fault : Fault) → IsClosingRefusal old fault → new.book ≡ old.book → act sim Close part (in_book old.book) ≡ record { part = part; cell = in_book new.book; answer = Err fault }
-  close-refused fault why same =
-      let refused : act sim Close part (in_book old.book) ≡ left_alone part (in_book old.book) fault =
-      elim why [
-        | inl c ↦ act-close_closed sim part old.book c.1 ∙ ap (left_alone part (in_book old.book)) (sym c.0)
-        | inr c ↦ act-not_close sim part old.book c.1 (ap (λ t. may_close t old.book) ends ∙ c.2) ∙ ap (left_alone part (in_book old.book)) (sym c.0)
-      ] in
-      refused ∙ ap (λ b. left_alone part (in_book b) fault) (sym same)
+-- a close that the book did or refused
+pub close-tried : {S P : Type 0} (sim : Simulation S P) (part : Part P) (old new : RunBook) → sim.end ≡ old.end → {X : Type 0} (result : Result X Fault)
+    → MatchResult result (λ _. (old.book.is_closed ≡ false) × (may_close old.end old.book ≡ true) × (new ≡ record old { book = closed_book old.book })) (λ fault. IsClosingRefusal old fault × (new ≡ old))
+    → act sim Close part (in_book old.book) ≡ record { part = part; cell = in_book new.book; answer = answer_as (λ _. Done) result }
+close-tried sim part old new ends (Ok x) c =
+    act-close sim part old.book c.0 (ap (λ t. may_close t old.book) ends ∙ c.1) ∙ ap (λ (b : RunBook). (let a : Acted _ = record { part = part; cell = in_book b.book; answer = Ok Done } in a)) (sym c.2)
+close-tried sim part old new ends (Err fault) c =
+    (elim c.0 [
+      | inl b ↦ act-close_closed sim part old.book b.1 ∙ ap (left_alone part (in_book old.book)) (sym b.0)
+      | inr b ↦ act-not_close sim part old.book b.1 (ap (λ t. may_close t old.book) ends ∙ b.2) ∙ ap (left_alone part (in_book old.book)) (sym b.0)
+    ])
+    ∙ ap (λ (b : RunBook). left_alone part (in_book b.book) fault) (sym c.1)
 
 -- a close, as a step that leaves a kernel
 pub close-step : {S P K : Type 0} (handlers : Handlers S P K) (config : Config) (k : HeldWorker S P K) {book left : Book} (result : Result Reply Fault)

@@ -1,5 +1,5 @@
 -- Send and Fetch on a kernel and an inbox, by what the kernel's calls do and refuse.
-use Rattle.std.proofs.Common.{◌≡◌, ℕ, ◌+◌, inl, inr, true, List, [], ◌++◌, refl, sym, ◌∙◌, ap, subst, arith, Ok, Err}
+use Rattle.std.proofs.Common.{◌≡◌, ℕ, ◌+◌, inl, inr, true, List, [], ◌++◌, refl, sym, ◌∙◌, ap, subst, arith, Result, Ok, Err, IfOk, IfErr}
 use Rattle.vt_key.specs.declared.letter.Colour.TheVariants.{White, Red}
 use Rattle.vt_key.specs.declared.letter.Mail.{Mail}
 use Rattle.vt_key.specs.declared.fault.Fault.{Fault}
@@ -15,8 +15,8 @@ use Rattle.vt_steps.specs.promise.CellSteps.{may_send}
 use Rattle.vt_kernel.specs.inside.Held.{HeldWorker, StandsFor, AreCounted}
 use Rattle.vt_kernel.specs.inside.Guards.{IsSendRefusal}
 use Rattle.vt_kernel.specs.promise.Refusals.{PassesIn}
-use Rattle.vt_kernel.specs.inside.Steps.{IsTakeRefusal}
-use Rattle.vt_cells.specs.inside.Calls.{IsCellRefusal, IsCellStepOf, rounds_of}
+use Rattle.vt_kernel.specs.inside.Steps.{held_after_send, held_after_fetch, IsTakeRefusal}
+use Rattle.vt_cells.specs.inside.Calls.{IsCellRefusal, IsCellStepOf, answer_as, rounds_of}
 use Rattle.vt_cells.proofs.ActLemmas.{act-send, act-not_send, act-fetch, act-not_fetch}
 
 module _ {S P : Type 0} (sim : Simulation S P) where
@@ -65,13 +65,14 @@ module _ {S P : Type 0} (sim : Simulation S P) where
       )
 
 module _ {S P K : Type 0} (handlers : Handlers S P K) (old new : HeldWorker S P K) where
-  -- a send that the kernel did
-  pub send-done : (v : ℕ) (mails left : List (Mail P)) → new.worker ≡ old.worker → new.config ≡ old.config
-      → ((part : Part P) → StandsFor handlers old part → (may_send (simulation_of handlers old.config).workers old.worker v part.outbox ≡ true)
-      × StandsFor handlers new (part_after_send (simulation_of handlers old.config) v part) × (left ≡ mails ++ mail_of_send (simulation_of handlers old.config) v part))
-      → ((part : Part P) → StandsFor handlers new part → PassesIn (simulation_of handlers old.config) (Send old.worker v) part 0 → ⊥)
-      → IsCellStepOf handlers old.config (Send old.worker v) old new (in_inbox mails) (in_inbox left) (Ok Done)
-  send-done v mails left same_worker same_config does few = record {
+  -- a send that the kernel did or refused
+  pub send-step : (v : ℕ) (mails left : List (Mail P)) {X : Type 0} (result : Result X Fault) → IfOk result (λ _. new ≡ held_after_send v old)
+      → ((part : Part P) → StandsFor handlers old part → IfOk result (λ _. (may_send (simulation_of handlers old.config).workers old.worker v part.outbox ≡ true)
+      × StandsFor handlers new (part_after_send (simulation_of handlers old.config) v part) × (left ≡ mails ++ mail_of_send (simulation_of handlers old.config) v part)))
+      → ((part : Part P) → StandsFor handlers new part → IfOk result (λ _. PassesIn (simulation_of handlers old.config) (Send old.worker v) part 0 → ⊥))
+      → ((part : Part P) → StandsFor handlers old part → IfErr result (IsSendRefusal (simulation_of handlers old.config) old.worker v part)) → IfErr result (λ _. (new ≡ old) × (left ≡ mails))
+      → IsCellStepOf handlers old.config (Send old.worker v) old new (in_inbox mails) (in_inbox left) (answer_as (λ _. Done) result)
+  send-step v mails left (Ok x) is does few why kept = record {
     done = record {
       acts = λ part s.
           (let sim = simulation_of handlers old.config in
@@ -80,30 +81,27 @@ module _ {S P K : Type 0} (handlers : Handlers S P K) (old new : HeldWorker S P 
             act-send sim old.worker v part mails d.0 ∙ ap (λ (l : List (Mail P)). record { part = part_after_send sim v part; cell = in_inbox l; answer = Ok Done }) (sym d.2),
             d.1,
           ));
-      worker = same_worker;
-      config_is = same_config;
+      worker = ap (λ (k : HeldWorker S P K). k.worker) is;
+      config_is = ap (λ (k : HeldWorker S P K). k.config) is;
     };
     within = few;
     refused = λ part s. tt;
     unchanged = tt;
   }
-
-  -- one that it refused
-  pub send-refused : (v : ℕ) (mails left : List (Mail P)) (fault : Fault)
-      → ((part : Part P) → StandsFor handlers old part → IsSendRefusal (simulation_of handlers old.config) old.worker v part fault) → new ≡ old → left ≡ mails
-      → IsCellStepOf handlers old.config (Send old.worker v) old new (in_inbox mails) (in_inbox left) (Err fault)
-  send-refused v mails left fault why same same_mail = record {
+  send-step v mails left (Err fault) is does few why kept = record {
     done = tt;
     within = λ part s. tt;
     refused = λ part s. send-why (simulation_of handlers old.config) old.worker v part mails fault (why part s);
-    unchanged = (same, ap in_inbox same_mail);
+    unchanged = (kept.0, ap in_inbox kept.1);
   }
 
-  -- a fetch that the kernel did
-  pub fetch-done : (mails left : List (Mail P)) → left ≡ [] → new.worker ≡ old.worker → new.config ≡ old.config
-      → ((part : Part P) → StandsFor handlers old part → (is_empty part.arrived ≡ true) × StandsFor handlers new (part_after_fetch mails part)) → AreCounted new.got
-      → IsCellStepOf handlers old.config (Fetch old.worker) old new (in_inbox mails) (in_inbox left) (Ok Done)
-  fetch-done mails left none same_worker same_config does few = record {
+  -- a fetch that the kernel did or refused
+  pub fetch-step : (mails left : List (Mail P)) {X : Type 0} (result : Result X Fault) → IfOk result (λ _. new ≡ held_after_fetch mails old) → IfOk result (λ _. left ≡ [])
+      → IfOk result (λ _. (is_empty old.arrived ≡ true) × AreCounted new.got)
+      → ((part : Part P) → StandsFor handlers old part → IfOk result (λ _. (is_empty part.arrived ≡ true) × StandsFor handlers new (part_after_fetch mails part)))
+      → IfErr result (IsTakeRefusal old.arrived old.got mails) → IfErr result (λ _. (new ≡ old) × (left ≡ mails))
+      → IsCellStepOf handlers old.config (Fetch old.worker) old new (in_inbox mails) (in_inbox left) (answer_as (λ _. Done) result)
+  fetch-step mails left (Ok x) is none lawful does why kept = record {
     done = record {
       acts = λ part s.
           (let sim = simulation_of handlers old.config in
@@ -112,14 +110,14 @@ module _ {S P K : Type 0} (handlers : Handlers S P K) (old new : HeldWorker S P 
             act-fetch sim old.worker part mails d.0 ∙ ap (λ (l : List (Mail P)). record { part = part_after_fetch mails part; cell = in_inbox l; answer = Ok Done }) (sym none),
             d.1,
           ));
-      worker = same_worker;
-      config_is = same_config;
+      worker = ap (λ (k : HeldWorker S P K). k.worker) is;
+      config_is = ap (λ (k : HeldWorker S P K). k.config) is;
     };
     within = λ part s over.
         (let white = ap (λ (c : Counts). c.white) s.got in
         let red = ap (λ (c : Counts). c.red) s.got in
-        let few_white = few.white in
-        let few_red = few.red in
+        let few_white = lawful.1.white in
+        let few_red = lawful.1.red in
         elim over [
           | inl a ↦ omega (arith, a, white, few_white)
           | inr b ↦ omega (arith, b, red, few_red)
@@ -127,15 +125,11 @@ module _ {S P K : Type 0} (handlers : Handlers S P K) (old new : HeldWorker S P 
     refused = λ part s. tt;
     unchanged = tt;
   }
-
-  -- one that it refused
-  pub fetch-refused : (mails left : List (Mail P)) (fault : Fault) → IsTakeRefusal old.arrived old.got mails fault → new ≡ old → left ≡ mails
-      → IsCellStepOf handlers old.config (Fetch old.worker) old new (in_inbox mails) (in_inbox left) (Err fault)
-  fetch-refused mails left fault why same same_mail = record {
+  fetch-step mails left (Err fault) is none lawful does why kept = record {
     done = tt;
     within = λ part s. tt;
     refused = λ part s.
         fetch-why (simulation_of handlers old.config) old.worker part mails fault
         (subst (λ (x : List (Mail P) × Counts). IsTakeRefusal x.0 x.1 mails fault) (λ i. (sym s.arrived i, sym s.got i)) why);
-    unchanged = (same, ap in_inbox same_mail);
+    unchanged = (kept.0, ap in_inbox kept.1);
   }

@@ -1,6 +1,6 @@
 //! Cut and Report, on a kernel and the board.
 
-ghost use Rattle.std.specs.Prelude.{◌≡◌, Ok, Err, IfOk, IfErr, MatchResult, is_ok};
+ghost use Rattle.std.specs.Prelude.{◌≡◌, Ok, Err, IfErr, MatchResult, is_ok};
 ghost use Rattle.vt_key.specs.promise.Letters.{other_colour};
 ghost use Rattle.vt_key.specs.declared.fault.Fault.TheVariants.{NotLawful};
 ghost use Rattle.vt_key.specs.promise.Times.{earlier};
@@ -12,7 +12,7 @@ ghost use Rattle.vt_steps.specs.promise.Letters.{count_of, least_time};
 ghost use Rattle.vt_steps.specs.inside.Cells.{on_board};
 ghost use Rattle.vt_kernel.specs.inside.Guards.{held_letters};
 ghost use Rattle.vt_board.specs.inside.Calls.{cut_outcome, takes_report, reply_of};
-ghost use Rattle.vt_cells.specs.inside.Calls.{IsCellStepOf, answer_of};
+ghost use Rattle.vt_cells.specs.inside.Calls.{IsCellStepOf, answer_as};
 
 use vt_board::{Board, Report};
 use vt_engine::Engine;
@@ -28,17 +28,16 @@ pub fn cut<M: EventModel, const KIND: u8>(
     kernel: &mut Engine<M, KIND>,
     w: u32,
     board: &mut Board,
-) -> Result<Reply, Fault>
+) -> Result<(), Fault>
     requires end { board.old.end ≡ end_of kernel.old.config }
-    ensures step { (handlers : Handlers _ _ _) → IsCellStepOf handlers kernel.old.config (step.Cut w) kernel.old kernel.new (on_board board.old.board) (on_board board.new.board) result }
+    ensures step { (handlers : Handlers _ _ _) → IsCellStepOf handlers kernel.old.config (step.Cut w) kernel.old kernel.new (on_board board.old.board) (on_board board.new.board) (answer_as (λ _. Done) result) }
     ensures end { board.new.end ≡ board.old.end }
-    ensures reply { IfOk result (λ reply. reply ≡ Done) }
     ensures why { MatchResult result (λ _. cut_outcome board.old.end w board.old.board ≡ Ok board.new.board) (λ fault. cut_outcome board.old.end w board.old.board ≡ Err fault) }
 {
     match board.cut(w) {
         Ok(announced) => {
             kernel.turn(announced);
-            Ok(Reply::Done)
+            Ok(())
         }
         Err(fault) => Err(fault),
     }
@@ -57,7 +56,7 @@ pub fn report<M: EventModel, const KIND: u8>(
     requires got { values.1 ≡ count_of kernel.old.got (other_colour kernel.old.colour) }
     requires least { values.2 ≡ earlier kernel.old.red_minimum (least_time (end_of kernel.old.config) (held_letters kernel.old)) }
     requires end { board.old.end ≡ end_of kernel.old.config }
-    ensures step { (handlers : Handlers _ _ _) → IsCellStepOf handlers kernel.old.config (step.Report w) kernel.old kernel.new (on_board board.old.board) (on_board board.new.board) (answer_of result) }
+    ensures step { (handlers : Handlers _ _ _) → IsCellStepOf handlers kernel.old.config (step.Report w) kernel.old kernel.new (on_board board.old.board) (on_board board.new.board) (answer_as reply_of result) }
     ensures end { board.new.end ≡ board.old.end }
     ensures lawful { is_ok result ≡ takes_report board.old.end w values.2 board.old.board }
     ensures why { IfErr result (λ fault. fault ≡ NotLawful) }

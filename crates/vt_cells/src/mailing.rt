@@ -10,12 +10,11 @@ ghost use Rattle.vt_steps.specs.inside.Cells.{in_inbox};
 ghost use Rattle.vt_kernel.specs.inside.Held.{StandsFor, AllOwnMail};
 ghost use Rattle.vt_kernel.specs.inside.Guards.{IsSendRefusal};
 ghost use Rattle.vt_kernel.specs.inside.Steps.{IsTakeRefusal};
-ghost use Rattle.vt_cells.specs.inside.Calls.{IsCellStepOf};
+ghost use Rattle.vt_cells.specs.inside.Calls.{IsCellStepOf, answer_as};
 
 use vt_engine::Engine;
 use vt_key::{Fault, Mail};
 use vt_model::Model as EventModel;
-use vt_steps::Reply;
 
 /// Send: the letters of a kernel's outbox for processes of worker `v` go to the back of the inbox of `v`.
 ///
@@ -25,16 +24,12 @@ pub fn send<M: EventModel, const KIND: u8>(
     kernel: &mut Engine<M, KIND>,
     v: u32,
     inbox: &mut Vec<Mail<M::Payload>>,
-) -> Result<Reply, Fault>
-    ensures step { (handlers : Handlers _ _ _) → IsCellStepOf handlers kernel.old.config (step.Send kernel.old.worker v) kernel.old kernel.new (in_inbox inbox.old.items) (in_inbox inbox.new.items) result }
+) -> Result<(), Fault>
+    ensures step { (handlers : Handlers _ _ _) → IsCellStepOf handlers kernel.old.config (step.Send kernel.old.worker v) kernel.old kernel.new (in_inbox inbox.old.items) (in_inbox inbox.new.items) (answer_as (λ _. Done) result) }
     ensures own { AllOwnMail kernel.old.config v inbox.old.items → AllOwnMail kernel.old.config v inbox.new.items }
-    ensures reply { IfOk result (λ reply. reply ≡ Done) }
     ensures why { (handlers : Handlers _ _ _) (part : Part _) → StandsFor handlers kernel.old part → IfErr result (λ fault. IsSendRefusal (simulation_of handlers kernel.old.config) kernel.old.worker v part fault) }
 {
-    match kernel.letters_for(v, inbox) {
-        Ok(()) => Ok(Reply::Done),
-        Err(fault) => Err(fault),
-    }
+    kernel.letters_for(v, inbox)
 }
 
 /// Fetch: the mail of a kernel's inbox becomes its arrived mail. The inbox gets the kernel's emptied list, so it keeps room.
@@ -44,16 +39,12 @@ pub fn send<M: EventModel, const KIND: u8>(
 pub fn fetch<M: EventModel, const KIND: u8>(
     kernel: &mut Engine<M, KIND>,
     inbox: &mut Vec<Mail<M::Payload>>,
-) -> Result<Reply, Fault>
+) -> Result<(), Fault>
     requires own { AllOwnMail kernel.old.config kernel.old.worker inbox.old.items }
-    ensures step { (handlers : Handlers _ _ _) → IsCellStepOf handlers kernel.old.config (step.Fetch kernel.old.worker) kernel.old kernel.new (in_inbox inbox.old.items) (in_inbox inbox.new.items) result }
+    ensures step { (handlers : Handlers _ _ _) → IsCellStepOf handlers kernel.old.config (step.Fetch kernel.old.worker) kernel.old kernel.new (in_inbox inbox.old.items) (in_inbox inbox.new.items) (answer_as (λ _. Done) result) }
     ensures own { AllOwnMail kernel.old.config kernel.old.worker inbox.new.items }
     ensures emptied { IfOk result (λ _. inbox.new.items ≡ []) }
-    ensures reply { IfOk result (λ reply. reply ≡ Done) }
     ensures why { IfErr result (IsTakeRefusal kernel.old.arrived kernel.old.got inbox.old.items) }
 {
-    match kernel.fetch(inbox) {
-        Ok(()) => Ok(Reply::Done),
-        Err(fault) => Err(fault),
-    }
+    kernel.fetch(inbox)
 }

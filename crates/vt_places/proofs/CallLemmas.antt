@@ -15,13 +15,14 @@ use Rattle.vt_steps.specs.promise.World.{Part, World}
 use Rattle.vt_steps.specs.inside.Cells.{inbox_of, Cell, in_inbox, on_board, in_book, content}
 use Rattle.vt_steps.specs.inside.Marked.{shown}
 use Rattle.vt_kernel.specs.inside.Held.{HeldWorker}
+use Rattle.vt_cells.specs.inside.Calls.{answer_as}
 use Rattle.vt_places.specs.declared.slot.Slot.{Slot}
 use Rattle.vt_places.specs.declared.view.View.{View}
 use Rattle.vt_places.specs.declared.place.Place.{Place}
 use Rattle.vt_places.specs.inside.Hands.{Hand, holding}
 use Rattle.vt_places.specs.inside.Slots.{held_in}
 use Rattle.vt_places.specs.inside.Kept.{Sat, Rests}
-use Rattle.vt_places.specs.inside.Calls.{Unvisited, Known, Took, TookThere, Holding, IsDoneAt, Closes, Visited, Stays, answer_as}
+use Rattle.vt_places.specs.inside.Calls.{Unvisited, Known, Took, TookThere, Holding, IsDoneAt, Closes, Visited, Stays}
 use Rattle.vt_places.proofs.Cells.{inbox-name, board-name, book-name, inbox-holds, board-holds, book-holds}
 
 -- a view that differs in its hand alone
@@ -97,14 +98,14 @@ module _ {S P K : Type 0} (handlers : Handlers S P K) (config : Config) (v w : V
   Left answer = MatchResult answer (λ reply. Visited handlers config w before step reply left w.seen after) (λ _. Unvisited w w.seen after)
 
   pub tried-there : {X : Type 0} (reply : X → Reply) (result : Result X Fault) {answer : Result Reply Fault} → answer ≡ answer_as reply result → Left answer
-      → IfErr answer (λ _. (done ≡ lent) × Same) → MatchResult result (λ x. Visited handlers config v lent step (reply x) done v.seen after) (λ _. Stays v after × (done ≡ lent))
+      → IfErr (answer_as reply result) (λ _. (done ≡ lent) × Same) → MatchResult result (λ x. Visited handlers config v lent step (reply x) done v.seen after) (λ _. Stays v after × (done ≡ lent))
   tried-there reply (Ok x) told r kept = visited-there handlers config v w before left step (reply x) after lent done (reply x) h was is refl (subst Left told r)
-  tried-there reply (Err fault) told r kept = (stays-held v w after h (subst Left told r), (subst (λ (a : Result Reply Fault). IfErr a (λ _. (done ≡ lent) × Same)) told kept).0)
+  tried-there reply (Err fault) told r kept = (stays-held v w after h (subst Left told r), kept.0)
 
 -- a call is refused for the reason of its step
-pub tried-refused : {X : Type 0} (reply : X → Reply) (result : Result X Fault) {answer : Result Reply Fault} (why : Fault → Type 0) → answer ≡ answer_as reply result → IfErr answer why → IfErr result why
-tried-refused reply (Ok x) why told r = tt
-tried-refused reply (Err fault) why told r = subst (λ (a : Result Reply Fault). IfErr a why) told r
+pub tried-refused : {X : Type 0} (reply : X → Reply) (result : Result X Fault) (why : Fault → Type 0) → IfErr (answer_as reply result) why → IfErr result why
+tried-refused reply (Ok x) why r = tt
+tried-refused reply (Err fault) why r = r
 
 module _ {S P : Type 0} {sim : Simulation S P} {config : Config} {m after : Sat P} {k : ℕ} (t : Took sim config m k after) (rests : Rests m) where
   -- a claim leaves the place as it was

@@ -54,7 +54,7 @@ impl<M: EventModel> Station<M> {
             unreachable!()
         };
         match hand_in(kernel, worker, batch, book) {
-            Ok(_) => {
+            Ok(()) => {
                 let seen = book.floor();
                 let lent = Lent {
                     worker,
@@ -93,7 +93,7 @@ impl<M: EventModel> Station<M> {
             unreachable!()
         };
         match close::<M>(book) {
-            Ok(_) => {
+            Ok(()) => {
                 let floor = book.floor();
                 self.release_close(seat, self.workers + 1, floor);
                 Ok(())

@@ -4,13 +4,13 @@ ghost use Rattle.std.specs.Prelude.{◌≡◌, IfErr, MatchResult};
 ghost use Rattle.vt_steps.specs.declared.step.Step.TheVariants as step;
 ghost use Rattle.vt_steps.specs.declared.step.Reply.TheVariants as reply;
 ghost use Rattle.vt_board.specs.inside.Calls.{reply_of};
-ghost use Rattle.vt_cells.specs.inside.Calls.{answer_of};
+ghost use Rattle.vt_cells.specs.inside.Calls.{answer_as};
 ghost use Rattle.vt_places.specs.inside.Told.{station_model, station_config, station_run, station_table, place_table, place_worker, place_view};
-ghost use Rattle.vt_places.specs.inside.Calls.{Reaches, Visited, Stays, IsCutRefusal, IsReportRefusal, answer_as, RefusesAlone};
+ghost use Rattle.vt_places.specs.inside.Calls.{Reaches, Visited, Stays, IsCutRefusal, IsReportRefusal, RefusesAlone};
 
 use crate::place::Place;
 use crate::slot::Slot;
-use crate::station::{HOME, Station, Visit};
+use crate::station::{HOME, Station, Visit, done_of};
 use std::snapshot::Snapshot;
 use vt_board::Report;
 use vt_cells::{cut, reply_of, report};
@@ -21,8 +21,7 @@ use vt_steps::{Reply, Step};
 
 /// What a report was answered, as the answer of a step.
 fn answer_of(answer: &Result<Report, Fault>) -> Result<Reply, Fault>
-    ensures step { result ≡ answer_of answer.now }
-    ensures told { result ≡ answer_as reply_of answer.now }
+    ensures { result ≡ answer_as reply_of answer.now }
 {
     match answer {
         Ok(report) => Ok(reply_of(*report)),
@@ -62,14 +61,15 @@ impl<M: EventModel> Station<M> {
         let Slot::Board(board) = held else {
             unreachable!()
         };
+        let answer = cut(kernel, worker, board);
         let visit = Visit {
             step: Step::Cut(worker),
-            answer: cut(kernel, worker, board),
+            answer: done_of(&answer),
             before,
             left: Snapshot::of(kernel),
         };
         self.release_visit(seat, self.workers, HOME, &visit);
-        visit.outcome()
+        answer
     }
 
     /// The worker reports its counts and its least time to the board, and learns the announced time. It takes no

@@ -13,7 +13,7 @@ ghost use Rattle.vt_places.specs.inside.Calls.{Reaches, Visited, Stays, IsPostRe
 
 use crate::place::Place;
 use crate::slot::Slot;
-use crate::station::{HOME, Station, Visit, word_of_inbox};
+use crate::station::{HOME, Station, Visit, done_of, word_of_inbox};
 use std::snapshot::Snapshot;
 use vt_cells::{fetch, send};
 use vt_engine::Engine;
@@ -58,14 +58,15 @@ impl<M: EventModel> Station<M> {
         let Slot::Inbox(mails) = held else {
             unreachable!()
         };
+        let answer = send(kernel, v, mails);
         let visit = Visit {
             step: Step::Send(worker, v),
-            answer: send(kernel, v, mails),
+            answer: done_of(&answer),
             before,
             left: Snapshot::of(kernel),
         };
         self.release_visit(seat, v as usize, HOME, &visit);
-        visit.outcome()
+        answer
     }
 
     /// Moves the mail of the worker's inbox to its kernel, as arrived. It takes no memory.
@@ -104,14 +105,15 @@ impl<M: EventModel> Station<M> {
         let Slot::Inbox(mails) = held else {
             unreachable!()
         };
+        let answer = fetch(kernel, mails);
         let visit = Visit {
             step: Step::Fetch(worker),
-            answer: fetch(kernel, mails),
+            answer: done_of(&answer),
             before,
             left: Snapshot::of(kernel),
         };
         let word = word_of_inbox(mails);
         self.release_visit(seat, worker as usize, word, &visit);
-        visit.outcome()
+        answer
     }
 }

@@ -1,6 +1,6 @@
 //! The station and its places.
 
-ghost use Rattle.std.specs.Prelude.{◌≡◌, ◌≢◌, ◌<◌, ◌≤◌, ◌+◌, [], true, false, Ok, IfOk, MatchResult, unwrap_or};
+ghost use Rattle.std.specs.Prelude.{◌≡◌, ◌≢◌, ◌<◌, ◌≤◌, ◌+◌, [], true, false, Ok, MatchResult, unwrap_or};
 ghost use Rattle.atomic_table.specs.Table.{Allows};
 ghost use Rattle.vt_model.specs.promise.Histories.{IsLawful};
 ghost use Rattle.vt_model.specs.promise.Simulation.{simulation_of};
@@ -15,8 +15,8 @@ ghost use Rattle.vt_key.specs.declared.limits.TheConstants.{MAX_WORKERS};
 ghost use Rattle.vt_places.specs.inside.Slots.{cell_count, word_at, empty_word, claimed_word, cell_at};
 ghost use Rattle.vt_places.specs.inside.Kept.{IsTableRight, Rests};
 ghost use Rattle.vt_places.specs.inside.Commits.{Commits};
-ghost use Rattle.vt_cells.specs.inside.Calls.{IsCellStepOf, CommitsTo};
-ghost use Rattle.vt_places.specs.inside.Calls.{Took, TookThere, Holding, MaySee, Reaches, Visited, Unvisited, Closes, ShowsFloor, answer_as};
+ghost use Rattle.vt_cells.specs.inside.Calls.{IsCellStepOf, CommitsTo, answer_as};
+ghost use Rattle.vt_places.specs.inside.Calls.{Took, TookThere, Holding, MaySee, Reaches, Visited, Unvisited, Closes, ShowsFloor};
 
 use crate::rule::{About, Aim, Law, Tell};
 use crate::slot::Slot;
@@ -63,16 +63,13 @@ pub(crate) struct Visit<M: EventModel, const KIND: u8> {
     pub(crate) left: Snapshot<Engine<M, KIND>>,
 }
 
-impl<M: EventModel, const KIND: u8> Visit<M, KIND> {
-    /// The answer of a step whose only reply is that it was done.
-    pub(crate) fn outcome(self) -> Result<(), Fault>
-        requires reply { IfOk self.answer (λ reply. reply ≡ Done) }
-        ensures { self.answer ≡ answer_as (λ _. Done) result }
-    {
-        match self.answer {
-            Ok(_) => Ok(()),
-            Err(fault) => Err(fault),
-        }
+/// The answer of a call, as that of a step whose only reply is that it was done.
+pub(crate) fn done_of(answer: &Result<(), Fault>) -> Result<Reply, Fault>
+    ensures { result ≡ answer_as (λ _. Done) answer.now }
+{
+    match answer {
+        Ok(()) => Ok(Reply::Done),
+        Err(fault) => Err(*fault),
     }
 }
 

@@ -37,8 +37,9 @@ module _ {M S P K : Type 0} (handlers : Handlers S P K) (held : HeldWorld M S P 
   abbrev pub after_step : List (List (Mail P)) → Board → Book → HeldWorld M S P K
   after_step inboxes board book = held_world held.model held.config (slice_set held.workers w new) inboxes board book
 
-  -- the cell of this name held one thing, and holds another in the world after the step
+  -- the worker was there, and the cell of this name held one thing, and holds another in the world after the step
   pub record Puts (name : CellName) (cell left : Cell P) (inboxes : List (List (Mail P))) (board : Board) (book : Book) : Type 0 where
+    pub at : slice_get held.workers w ≡ Some k
     pub holds : (world : World P) → StandsForWorld handlers held world → content world name ≡ Some cell
     pub puts : (world : World P) → StandsForWorld handlers (after_step held.inboxes held.board held.book) world → StandsForWorld handlers (after_step inboxes board book) (with_content world name left)
     pub back : new ≡ k → left ≡ cell → after_step inboxes board book ≡ held
@@ -51,6 +52,7 @@ module _ {M S P K : Type 0} {handlers : Handlers S P K} {held : HeldWorld M S P 
   pub inbox-put : (v : ℕ) {inbox : List (Mail P)} → slice_get held.inboxes v ≡ Some inbox → (mails : List (Mail P)) → AllOwnMail held.config v mails
       → Puts handlers held w k new (inbox_of v) (in_inbox inbox) (in_inbox mails) (slice_set held.inboxes v mails) held.board held.book
   inbox-put v {inbox} here mails own = record {
+    at = at;
     holds = λ world h. ap (λ xs. option_map in_inbox (slice_get xs v)) h.inboxes ∙ ap (option_map in_inbox) here;
     puts = λ world h. record { parts = h.parts; inboxes = ap (λ xs. slice_set xs v mails) h.inboxes; board = h.board; book = h.book };
     back = λ same same_cell. (let same_mail : mails ≡ inbox = cc in put-back inside w at same (mail-back inside v here same_mail));
@@ -61,6 +63,7 @@ module _ {M S P K : Type 0} {handlers : Handlers S P K} {held : HeldWorld M S P 
   -- another board
   pub board-put : (board : Board) → Puts handlers held w k new board_cell (on_board held.board) (on_board board) held.inboxes board held.book
   board-put board = record {
+    at = at;
     holds = λ world h. ap (λ b. Some (on_board b)) h.board;
     puts = λ world h. record { parts = h.parts; inboxes = h.inboxes; board = refl; book = h.book };
     back = λ same same_cell. (let same_board : board ≡ held.board = cc in let workers = put-back inside w at same refl in (λ j. record (workers j) { board = same_board j }));
@@ -71,6 +74,7 @@ module _ {M S P K : Type 0} {handlers : Handlers S P K} {held : HeldWorld M S P 
   -- another book
   pub book-put : (book : Book) → Puts handlers held w k new book_cell (in_book held.book) (in_book book) held.inboxes held.board book
   book-put book = record {
+    at = at;
     holds = λ world h. ap (λ b. Some (in_book b)) h.book;
     puts = λ world h. record { parts = h.parts; inboxes = h.inboxes; board = h.board; book = refl };
     back = λ same same_cell. (let same_book : book ≡ held.book = cc in let workers = put-back inside w at same refl in (λ j. record (workers j) { book = same_book j }));
@@ -80,7 +84,7 @@ module _ {M S P K : Type 0} {handlers : Handlers S P K} {held : HeldWorld M S P 
 
 module _ {M S P K : Type 0} (meaning : M → Handlers S P K) {held : HeldWorld M S P K} {board_end book_end : Time} (inside : IsWorldInside (meaning held.model) held board_end book_end)
     (step_of : ℕ → Step) {w : ℕ} {name : CellName} (whose : IsAny (worker_of (simulation_of (meaning held.model) held.config) (step_of w)) w) (named : cell_of (simulation_of (meaning held.model) held.config) (step_of w) ≡ Some name)
-    {k new : HeldWorker S P K} (at : slice_get held.workers w ≡ Some k) {cell left : Cell P} {inboxes : List (List (Mail P))} {board : Board} {book : Book}
+    {k new : HeldWorker S P K} {cell left : Cell P} {inboxes : List (List (Mail P))} {board : Board} {book : Book}
     (p : Puts (meaning held.model) held w k new name cell left inboxes board book) where
   abbrev sim : Simulation S P
   sim = simulation_of (meaning held.model) held.config
@@ -91,8 +95,8 @@ module _ {M S P K : Type 0} (meaning : M → Handlers S P K) {held : HeldWorld M
   done-there : (reply : Reply) → IsCellStepOf (meaning held.model) held.config (step_of w) k new cell left (Ok reply)
       → GoesOn sim (step_of w) (Ok reply) (world_memory (meaning held.model) held) (world_memory (meaning held.model) after)
   done-there reply s world h =
-      let is = who inside at in
-      let f = found (meaning held.model) held world w k inside.own_workers h at in
+      let is = who inside p.at in
+      let f = found (meaning held.model) held world w k inside.own_workers h p.at in
       let a = s.done.acts f.part f.stands in
       let parts = part-changed (meaning held.model) held world w new a.0 h (s.done.worker ∙ is.0) (s.done.config_is ∙ is.1) a.2 in
       goes (meaning held.model) held world (step_of w) (put_back world w name (record { part = a.0; cell = left; answer = Ok reply })) (Ok reply) after
@@ -102,14 +106,14 @@ module _ {M S P K : Type 0} (meaning : M → Handlers S P K) {held : HeldWorld M
   few-there : (reply : Reply) → IsCellStepOf (meaning held.model) held.config (step_of w) k new cell left (Ok reply)
       → (world : World P) → StandsForWorld (meaning held.model) held world → PassesLimit sim (step_of w) (next sim world (step_of w)).world → ⊥
   few-there reply s world h past =
-      let f = found (meaning held.model) held world w k inside.own_workers h at in
+      let f = found (meaning held.model) held world w k inside.own_workers h p.at in
       let a = s.done.acts f.part f.stands in
       s.within a.0 a.2 (subst (λ (x : Acted P). PassesIn sim (step_of w) x.part (rounds_of x.cell)) a.1 (limit-there sim world (step_of w) w whose named f.there (p.holds world h) past))
 
   why-there : (fault : Fault) → IsCellStepOf (meaning held.model) held.config (step_of w) k new cell left (Err fault)
       → (world : World P) → StandsForWorld (meaning held.model) held world → IsStepRefusal sim (step_of w) world fault
   why-there fault s world h =
-      let f = found (meaning held.model) held world w k inside.own_workers h at in
+      let f = found (meaning held.model) held world w k inside.own_workers h p.at in
       refused-there sim world (step_of w) w whose named f.there (p.holds world h) (s.refused f.part f.stands)
 
   step-there : {seen : HeldWorld M S P K} → held ≡ seen → (result : Result Reply Fault) → IsCellStepOf (meaning held.model) held.config (step_of w) k new cell left result
@@ -121,14 +125,14 @@ module _ {M S P K : Type 0} (meaning : M → Handlers S P K) {held : HeldWorld M
       → IsWorldInside (meaning held.model) after new_board_end new_book_end
   inside-there same_board same_book (Ok reply) s =
       inside-stepped inside (step_of w) reply (slice_set held.workers w new) inboxes board book (length-set held.workers w new)
-      (are-workers inside w at new (s.done.worker, s.done.config_is)) p.all_inboxes p.own_inboxes same_board same_book (done-there reply s)
+      (are-workers inside w p.at new (s.done.worker, s.done.config_is)) p.all_inboxes p.own_inboxes same_board same_book (done-there reply s)
   inside-there same_board same_book (Err fault) s = inside-same inside (p.back s.unchanged.0 s.unchanged.1) same_board same_book
 
   -- what a kernel does by its own number and config, the worker at this index does
   module _ {result : Result Reply Fault} (s : IsCellStepOf (meaning held.model) k.config (step_of k.worker) k new cell left result) where
     own-step : IsCellStepOf (meaning held.model) held.config (step_of w) k new cell left result
     own-step =
-        let is = who inside at in
+        let is = who inside p.at in
         subst (λ (x : ℕ × Config). IsCellStepOf (meaning held.model) x.1 (step_of x.0) k new cell left result) (λ i. (is.0 i, is.1 i)) s
 
     -- the call does the step of the world
@@ -182,8 +186,8 @@ module _ {M S P K : Type 0} (meaning : M → Handlers S P K) {held : HeldWorld M
         (close-step (meaning held.model) held.config first.0 result acts same)
 
     pub closes : {seen : HeldWorld M S P K} → held ≡ seen → IsHeldStepOf (meaning seen.model) Close seen (record held { book = book }) result
-    closes {seen} seen_is = subst (λ (x : HeldWorld M S P K). IsHeldStepOf (meaning seen.model) Close seen x result) back (cell-step meaning inside (λ u. Close) tt refl first.1 put its-step seen_is)
+    closes {seen} seen_is = subst (λ (x : HeldWorld M S P K). IsHeldStepOf (meaning seen.model) Close seen x result) back (cell-step meaning inside (λ u. Close) tt refl put its-step seen_is)
 
     pub closes-inside : {new_book_end : Time} → new_book_end ≡ book_end → IsWorldInside (meaning held.model) (record held { book = book }) board_end new_book_end
     closes-inside {new_book_end} same_end =
-        subst (λ (x : HeldWorld M S P K). IsWorldInside (meaning held.model) x board_end new_book_end) back (cell-inside meaning inside (λ u. Close) tt refl first.1 put its-step refl same_end)
+        subst (λ (x : HeldWorld M S P K). IsWorldInside (meaning held.model) x board_end new_book_end) back (cell-inside meaning inside (λ u. Close) tt refl put its-step refl same_end)

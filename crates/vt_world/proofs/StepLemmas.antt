@@ -16,6 +16,12 @@ use Rattle.vt_kernel.specs.inside.Held.{HeldWorker}
 use Rattle.vt_kernel.specs.promise.Refusals.{PassesLimit, IsStepRefusal}
 use Rattle.vt_world.specs.inside.Held.{HeldWorld, held_world, world_memory, StandsForWorld, IsHeldStepOf, AreWorkers, AreInboxes, IsWorldInside}
 
+-- a refusal that is handed on
+pub step-handed : {M S P K : Type 0} (meaning : M → Handlers S P K) {held new : HeldWorld M S P K} {step : Step} {fault : Fault} (result : Result Reply Fault) → IsErrAnd result (λ e. e ≡ fault)
+    → IsHeldStepOf (meaning held.model) step held new (Err fault) → IsHeldStepOf (meaning held.model) step held new result
+step-handed meaning (Ok reply) is s = absurd is
+step-handed meaning {held} {new} {step} (Err e) is s = subst (λ f. IsHeldStepOf (meaning held.model) step held new (Err f)) (sym is) s
+
 module _ {M S P K : Type 0} (meaning : M → Handlers S P K) {held seen : HeldWorld M S P K} (seen_is : held ≡ seen) where
   -- a step is done
   pub step-done : (new : HeldWorld M S P K) (step : Step) (reply : Reply)
@@ -38,17 +44,17 @@ module _ {M S P K : Type 0} (meaning : M → Handlers S P K) {held seen : HeldWo
   pub step-refused : (new : HeldWorld M S P K) (step : Step) (fault : Fault) (result : Result Reply Fault) → IsErrAnd result (λ e. e ≡ fault) → new ≡ held
       → ((world : World P) → StandsForWorld (meaning held.model) held world → IsStepRefusal (simulation_of (meaning held.model) held.config) step world fault)
       → IsHeldStepOf (meaning seen.model) step seen new result
-  step-refused new step fault (Ok reply) is same why = absurd is
-  step-refused new step fault (Err e) is same why =
-      subst (λ (v : HeldWorld M S P K). IsHeldStepOf (meaning v.model) step v new (Err e)) seen_is
+  step-refused new step fault result is same why =
+      step-handed meaning result is
+      (subst (λ (v : HeldWorld M S P K). IsHeldStepOf (meaning v.model) step v new (Err fault)) seen_is
       (record {
         done = tt;
         within = λ world h. tt;
-        refused = λ world h. subst (IsStepRefusal (simulation_of (meaning held.model) held.config) step world) (sym is) (why world h);
+        refused = why;
         unchanged = same;
         same_model = ap (λ (v : HeldWorld M S P K). v.model) same;
         same_config = ap (λ (v : HeldWorld M S P K). v.config) same;
-      })
+      }))
 
   -- a step is refused as the definitions refuse it
   pub step-unlawful : (new : HeldWorld M S P K) (step : Step) (fault : Fault) (result : Result Reply Fault) → IsErrAnd result (λ e. e ≡ fault) → new ≡ held

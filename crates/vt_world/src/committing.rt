@@ -20,13 +20,15 @@ impl<'m, M: EventModel> InMemory<'m, M> {
         if w >= self.config.workers {
             return Err(Fault::NotLawful);
         }
-        vt_cells::commit(alloc, &mut self.kernels[w as usize], w, &mut self.book)
+        vt_cells::commit(alloc, &mut self.kernels[w as usize], w, &mut self.book)?;
+        Ok(Reply::Done)
     }
 
     /// Closes the book, whose floor must be the end of the run.
     pub(crate) fn close(&mut self) -> Result<Reply, Fault>
         ensures { IsHeldStepOf (M.handlers self.old.model) step.Close self.old self.new result }
     {
-        vt_cells::close::<M>(&mut self.book)
+        vt_cells::close::<M>(&mut self.book)?;
+        Ok(Reply::Done)
     }
 }

@@ -17,7 +17,8 @@ impl<'m, M: EventModel> InMemory<'m, M> {
         if w >= self.config.workers {
             return Err(Fault::NotLawful);
         }
-        vt_cells::cut(&mut self.kernels[w as usize], w, &mut self.board)
+        vt_cells::cut(&mut self.kernels[w as usize], w, &mut self.board)?;
+        Ok(Reply::Done)
     }
 
     /// Worker `w` reports its counts and its least time to the board, and learns the announced time.

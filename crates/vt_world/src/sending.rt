@@ -20,7 +20,8 @@ impl<'m, M: EventModel> InMemory<'m, M> {
             &mut self.kernels[w as usize],
             v,
             &mut self.inboxes[v as usize].mail,
-        )
+        )?;
+        Ok(Reply::Done)
     }
 
     /// Worker `w` empties its inbox.
@@ -33,6 +34,7 @@ impl<'m, M: EventModel> InMemory<'m, M> {
         vt_cells::fetch(
             &mut self.kernels[w as usize],
             &mut self.inboxes[w as usize].mail,
-        )
+        )?;
+        Ok(Reply::Done)
     }
 }

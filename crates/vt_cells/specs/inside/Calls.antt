@@ -16,8 +16,6 @@ use Rattle.vt_steps.specs.promise.PartSteps.{part_after_commit, rows_of_commit}
 use Rattle.vt_steps.specs.promise.BookSteps.{may_close}
 use Rattle.vt_steps.specs.promise.Next.{reached}
 use Rattle.vt_steps.specs.inside.Cells.{Cell, on_board, in_book, act}
-use Rattle.vt_board.specs.declared.board.Report.{Report}
-use Rattle.vt_board.specs.inside.Calls.{reply_of}
 use Rattle.vt_book.specs.inside.Books.{RunBook}
 use Rattle.vt_kernel.specs.inside.Held.{HeldWorker, StandsFor}
 use Rattle.vt_kernel.specs.promise.Refusals.{PassesIn, TakesMemory}
@@ -53,10 +51,10 @@ module _ {S P K : Type 0} (handlers : Handlers S P K) where
     pub refused : (part : Part P) → StandsFor handlers old part → IfErr result (IsCellRefusal (simulation_of handlers config) step part found)
     pub unchanged : IfErr result (λ fault. (new ≡ old) × (left ≡ found))
 
--- what a report was answered, as the answer of a step
-abbrev pub answer_of : Result Report Fault → Result Reply Fault
-answer_of (Ok report) = Ok (reply_of report)
-answer_of (Err fault) = Err fault
+-- an answer as that of a step, by the reply that its value stands for
+abbrev pub answer_as : {X : Type 0} → (X → Reply) → Result X Fault → Result Reply Fault
+answer_as reply (Ok x) = Ok (reply x)
+answer_as reply (Err fault) = Err fault
 
 -- ---- commits
 
@@ -94,7 +92,7 @@ module _ {S P K : Type 0} (handlers : Handlers S P K) where
 
   -- a commit of a kernel that still keeps what it commits. Where it is done, it does so to the book; where it is refused, it says
   -- why, and the book is as it was
-  pub record IsHandInOf (config : Config) (w : ℕ) (k : HeldWorker S P K) (found left : Book) (result : Result Reply Fault) : Type 0 where
-    pub done : IfOk result (λ reply. (reply ≡ Done) × CommitsTo config w k (in_book found) (in_book left))
+  pub record IsHandInOf (config : Config) (w : ℕ) (k : HeldWorker S P K) (found left : Book) (result : Result (Unit {0}) Fault) : Type 0 where
+    pub done : IfOk result (λ _. CommitsTo config w k (in_book found) (in_book left))
     pub refused : (part : Part P) → StandsFor handlers k part → IfErr result (IsCellRefusal (simulation_of handlers config) (Commit w) part (in_book found))
     pub unchanged : IfErr result (λ fault. left ≡ found)

@@ -35,11 +35,6 @@ use Rattle.vt_places.specs.inside.Hands.{Hand, empty_hand, holding}
 use Rattle.vt_places.specs.inside.Slots.{cell_at, held_in, IsSlotOf}
 use Rattle.vt_places.specs.inside.Kept.{Sat, HasGrown}
 
--- an answer as that of a step, by the reply that its value stands for
-abbrev pub answer_as : {X : Type 0} → (X → Reply) → Result X Fault → Result Reply Fault
-answer_as reply (Ok x) = Ok (reply x)
-answer_as reply (Err fault) = Err fault
-
 -- ---- what changes of a view
 
 module _ {P : Type 0} where

@@ -1,12 +1,15 @@
 use Rattle.std.proofs.Common.{refl, ap}
+use Rattle.std.proofs.lemmas.Result.{err_from_is_err_and}
 use Rattle.vt_kernel.specs.inside.Held.{HeldWorker}
 use Rattle.vt_cells.proofs.BookSteps.{commit-done, commit-refused}
 use Rattle.vt_cells.proofs.committing.commit.Goals as goal
 
-pub returns-in-Ok-clause-step : goal.returns-in-Ok-clause-step
-returns-in-Ok-clause-step g c H =
-    let others = c.fossil.ensures.others in
-    commit-done H c.args.kernel.now.config c.in-Ok.reply (c.in-Ok.ensures.step H) (ap (λ (k : HeldWorker _ _ _). k.worker) others) (ap (λ (k : HeldWorker _ _ _). k.config) others) (c.fossil.ensures.stands H)
+pub returns-in_err-hand_in-clause-step : goal.returns-in_err-hand_in-clause-step
+returns-in_err-hand_in-clause-step g c H =
+    let p = err_from_is_err_and c.from_residual.result c.from_residual.ensures.1 in
+    rw (p.1, p.2) (commit-refused H c.args.kernel.now.config c.in_err-hand_in.field-0.0 (c.in_err-hand_in.ensures.step H) refl)
 
-pub returns-in-Err-clause-step : goal.returns-in-Err-clause-step
-returns-in-Err-clause-step g c H = commit-refused H c.args.kernel.now.config c.in-Err.fault (c.in-Err.ensures.step H) refl
+pub returns-clause-step : goal.returns-clause-step
+returns-clause-step g c H =
+    let others = c.fossil.ensures.others in
+    commit-done H c.args.kernel.now.config (c.in_ok-hand_in.ensures.step H) (ap (λ (k : HeldWorker _ _ _). k.worker) others) (ap (λ (k : HeldWorker _ _ _). k.config) others) (c.fossil.ensures.stands H)

@@ -24,7 +24,7 @@ release_close-requires-clause-held g c κs within =
       in_book c.in-Book.book.book,
       in_book new.book,
       book-kept t c.slot_mut-held.ensures.value c.in-Book.is new refl ok.end ok.kept,
-      (λ part. ok.step sim (sym ends) part ∙ ap (λ r. (let a : Acted _ = record { part = part; cell = in_book new.book; answer = Ok r } in a)) ok.reply),
+      ok.step sim (sym ends),
       c.floor-floor.ensures ∙ ap (λ e. book_floor e new.book) (ok.end ∙ ends),
     )
 

@@ -46,7 +46,7 @@ release_commit-requires-after_bounds g c κs within =
                   in_book old.book,
                   in_book new.book,
                   book-kept t c.slot_mut-held.ensures.value c.in-Book.is new refl ok.end ok.kept,
-                  subst (λ (x : Config × HeldWorker _ _ _). CommitsTo H x.0 c.args.place.now.worker x.1 (in_book old.book) (in_book new.book)) (λ i. (c.requires.kernel.config_is i, sym c.of.ensures i)) (ok.step H).done.1,
+                  subst (λ (x : Config × HeldWorker _ _ _). CommitsTo H x.0 c.args.place.now.worker x.1 (in_book old.book) (in_book new.book)) (λ i. (c.requires.kernel.config_is i, sym c.of.ensures i)) (ok.step H).done,
                   c.floor-seen.ensures ∙ ap (λ e. book_floor e new.book) (ok.end ∙ book-ends t c.slot_mut-held.ensures.value c.in-Book.is),
                 ),
                 search rules,
@@ -83,7 +83,7 @@ returns-in-Ok-clause-done g c =
     let visited = committed-visited H key.config v c.claim_book.new.seat.me.0 w c.of.result.value left seen after t.place c.release_commit.ensures.done forgets
     (ap (λ (h : HeldWorker _ _ _). h.worker) others ∙ ap (λ (h : HeldWorker _ _ _). h.worker) same) (ap (λ (h : HeldWorker _ _ _). h.config) others ∙ ap (λ (h : HeldWorker _ _ _). h.config) same) in
     let both = subst (λ (h : HeldWorker _ _ _). (x : Visited H key.config v h (Commit w) Done left seen after) × ShowsFloor (end_of key.config) seen x.visits.at.now) c.of.ensures visited in
-    let does = subst (λ (f : Config). CommitsTo H f w k (in_book c.in-Book.book.book) (in_book new.book)) r.config_is (ok.step H).done.1 r.part r.stands in (
+    let does = subst (λ (f : Config). CommitsTo H f w k (in_book c.in-Book.book.book) (in_book new.book)) r.config_is (ok.step H).done r.part r.stands in (
       seen,
       both.0,
       both.1,

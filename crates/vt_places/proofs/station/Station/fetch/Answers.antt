@@ -1,8 +1,10 @@
-use Rattle.std.proofs.Common.{inl, inr, ℕ, refl, sym, ap, subst, ◌∙◌, arith, rules}
+use Rattle.std.proofs.Common.{inl, inr, ℕ, refl, sym, ap, subst, ◌∙◌, Result, arith, rules}
 use Rattle.std.proofs.lemmas.Result.{IfErr-weaker}
+use Rattle.vt_key.specs.declared.fault.Fault.{Fault}
 use Rattle.vt_model.specs.declared.settings.Config.{Config}
 use Rattle.vt_model.specs.promise.Simulation.{simulation_of}
 use Rattle.vt_steps.specs.declared.step.Step.TheVariants.{Fetch}
+use Rattle.vt_steps.specs.declared.step.Reply.{Reply}
 use Rattle.vt_steps.specs.declared.step.Reply.TheVariants.{Done}
 use Rattle.vt_steps.specs.inside.Cells.{Cell, in_inbox}
 use Rattle.vt_steps.specs.promise.Letters.{Counts, is_empty}
@@ -11,14 +13,14 @@ use Rattle.vt_kernel.specs.inside.Steps.{IsTooMuchMail}
 use Rattle.vt_cells.specs.inside.Calls.{IsCellStepOf}
 use Rattle.vt_places.specs.declared.slot.Slot.TheVariants.{Inbox}
 use Rattle.vt_places.specs.inside.Calls.{Known, IsFetchRefusal}
-use Rattle.vt_places.proofs.CallLemmas.{took-own, took-place, tried-there, tried-refused}
+use Rattle.vt_places.proofs.CallLemmas.{took-own, took-place, tried-there}
 use Rattle.vt_places.proofs.HeldLemmas.{found-is, found-right, puts}
 use Rattle.vt_places.proofs.PlaceLemmas.{rested, refused, released, looked}
 use Rattle.vt_places.proofs.ReachLemmas.{reaches-visited}
 use Rattle.vt_places.proofs.station.Station.fetch.Goals as goal
 
-pub fetch-requires-clause-own : goal.fetch-requires-clause-own
-fetch-requires-clause-own g c κs within =
+pub fetch-answer-requires-clause-own : goal.fetch-answer-requires-clause-own
+fetch-answer-requires-clause-own g c κs within =
     let r = c.requires.kernel in
     let box = took-own c.args.place.now (c.if-finds_nothing.ensures.not refl) (c.if-not-claim.ensures.claimed refl) in
     (omega arith, subst (λ (x : ℕ × Config). AllOwnMail x.1 x.0 c.in-Inbox.mails.items) (λ i. (sym (r.worker ∙ c.args.place.now.own) i, sym r.config_is i)) (found-right box.holds c.slot_mut-held.ensures.value c.in-Inbox.is))
@@ -30,7 +32,7 @@ release_visit-requires-after_bounds g c κs within =
     let is = r.worker ∙ c.args.place.now.own in
     let box = took-own c.args.place.now (c.if-finds_nothing.ensures.not refl) (c.if-not-claim.ensures.claimed refl) in
     let old = c.in-Inbox.mails in
-    let new = c.fetch.new.inbox in (
+    let new = c.fetch-answer.new.inbox in (
       omega arith,
       (
         search rules,
@@ -44,10 +46,10 @@ release_visit-requires-after_bounds g c κs within =
                 (
                   in_inbox old.items,
                   in_inbox new.items,
-                  puts box.holds c.slot_mut-held.ensures.value c.in-Inbox.is (Inbox new) refl (subst (λ (x : ℕ × Config). AllOwnMail x.1 x.0 new.items) (λ i. (is i, r.config_is i)) c.fetch.ensures.own),
+                  puts box.holds c.slot_mut-held.ensures.value c.in-Inbox.is (Inbox new) refl (subst (λ (x : ℕ × Config). AllOwnMail x.1 x.0 new.items) (λ i. (is i, r.config_is i)) c.fetch-answer.ensures.own),
                   (λ e. ap in_inbox (c.word_of_inbox-word.ensures.empty e)),
-                  subst (λ (x : Config × ℕ × HeldWorker _ _ _ × HeldWorker _ _ _). IsCellStepOf H x.0 (Fetch x.1) x.2 x.3 (in_inbox old.items) (in_inbox new.items) c.fetch.result)
-                      (λ i. (r.config_is i, is i, sym c.of-before.ensures i, sym c.of.ensures i)) (c.fetch.ensures.step H),
+                  subst (λ (x : Config × ℕ × HeldWorker _ _ _ × HeldWorker _ _ _ × Result Reply Fault). IsCellStepOf H x.0 (Fetch x.1) x.2 x.3 (in_inbox old.items) (in_inbox new.items) x.4)
+                      (λ i. (r.config_is i, is i, sym c.of-before.ensures i, sym c.of.ensures i, sym c.done_of.ensures i)) (c.fetch-answer.ensures.step H),
                 ),
                 search rules,
               ),
@@ -62,8 +64,8 @@ returns-clause-done g c =
     let key = c.args.self.now.table.shared.key in
     let H = g.M.Model.handlers key.model.value in
     let box = took-own c.args.place.now (c.if-finds_nothing.ensures.not refl) (c.if-not-claim.ensures.claimed refl) in
-    tried-there H key.config c.args.place.now.seat.me.0 c.claim.new.seat.me.0 c.of-before.result.value c.of.result.value c.args.kernel.now c.fetch.new.kernel (Fetch c.args.place.now.worker) c.release_visit.new.seat.me.0
-    (took-place box.took c.args.place.now.rests) c.of-before.ensures c.of.ensures _ (λ _. Done) c.outcome.result c.outcome.ensures c.release_visit.ensures.done (c.fetch.ensures.step H).unchanged
+    tried-there H key.config c.args.place.now.seat.me.0 c.claim.new.seat.me.0 c.of-before.result.value c.of.result.value c.args.kernel.now c.fetch-answer.new.kernel (Fetch c.args.place.now.worker) c.release_visit.new.seat.me.0
+    (took-place box.took c.args.place.now.rests) c.of-before.ensures c.of.ensures _ (λ _. Done) c.fetch-answer.result c.done_of.ensures c.release_visit.ensures.done (c.fetch-answer.ensures.step H).unchanged
 
 pub returns-clause-refused : goal.returns-clause-refused
 returns-clause-refused g c part s =
@@ -73,8 +75,7 @@ returns-clause-refused g c part s =
     let why = IsFetchRefusal sim v part in
     let box = took-own c.args.place.now (c.if-finds_nothing.ensures.not refl) (c.if-not-claim.ensures.claimed refl) in
     let held = sym (found-is box.holds c.slot_mut-held.ensures.value c.in-Inbox.is) in
-    tried-refused (λ _. Done) c.outcome.result why c.outcome.ensures
-    (IfErr-weaker c.fetch.result _ why
+    IfErr-weaker c.fetch-answer.result _ why
     (λ fault at. elim at [
       | inl x ↦ inl (x.0, ap is_empty s.arrived ∙ x.1)
       | inr x ↦ inr (
@@ -89,7 +90,7 @@ returns-clause-refused g c part s =
         ),
       )
     ])
-    c.fetch.ensures.why)
+    c.fetch-answer.ensures.why
 
 pub returns-then-finds_nothing-clause-ready : goal.returns-then-finds_nothing-clause-ready
 returns-then-finds_nothing-clause-ready g c =

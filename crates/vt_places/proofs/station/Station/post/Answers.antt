@@ -1,6 +1,8 @@
-use Rattle.std.proofs.Common.{ℕ, refl, sym, subst, ◌∙◌, arith, rules}
+use Rattle.std.proofs.Common.{ℕ, refl, sym, subst, ◌∙◌, Result, arith, rules}
+use Rattle.vt_key.specs.declared.fault.Fault.{Fault}
 use Rattle.vt_model.specs.declared.settings.Config.{Config}
 use Rattle.vt_steps.specs.declared.step.Step.TheVariants.{Send}
+use Rattle.vt_steps.specs.declared.step.Reply.{Reply}
 use Rattle.vt_steps.specs.declared.step.Reply.TheVariants.{Done}
 use Rattle.vt_steps.specs.inside.Cells.{in_inbox}
 use Rattle.vt_kernel.specs.inside.Held.{HeldWorker, AllOwnMail}
@@ -32,7 +34,7 @@ release_visit-requires-after_bounds g c κs within =
     let r = c.requires.kernel in
     let h = (took-inbox (c.if-not-claim.ensures.claimed refl) c.args.place.now.rests (sent-within r c.args.v (c.in_ok-may_send.ensures.lawful H r.part r.stands).0)).1 in
     let old = c.in-Inbox.mails in
-    let new = c.send.new.inbox in (
+    let new = c.send-answer.new.inbox in (
       omega arith,
       (
         search rules,
@@ -46,10 +48,10 @@ release_visit-requires-after_bounds g c κs within =
                 (
                   in_inbox old.items,
                   in_inbox new.items,
-                  puts h c.slot_mut-held.ensures.value c.in-Inbox.is (Inbox new) refl (subst (λ (f : Config). AllOwnMail f c.args.v old.items → AllOwnMail f c.args.v new.items) r.config_is c.send.ensures.own (found-right h c.slot_mut-held.ensures.value c.in-Inbox.is)),
+                  puts h c.slot_mut-held.ensures.value c.in-Inbox.is (Inbox new) refl (subst (λ (f : Config). AllOwnMail f c.args.v old.items → AllOwnMail f c.args.v new.items) r.config_is c.send-answer.ensures.own (found-right h c.slot_mut-held.ensures.value c.in-Inbox.is)),
                   (λ e. home-not_empty e),
-                  subst (λ (x : Config × ℕ × HeldWorker _ _ _ × HeldWorker _ _ _). IsCellStepOf H x.0 (Send x.1 c.args.v) x.2 x.3 (in_inbox old.items) (in_inbox new.items) c.send.result)
-                      (λ i. (r.config_is i, (r.worker ∙ c.args.place.now.own) i, sym c.of-before.ensures i, sym c.of.ensures i)) (c.send.ensures.step H),
+                  subst (λ (x : Config × ℕ × HeldWorker _ _ _ × HeldWorker _ _ _ × Result Reply Fault). IsCellStepOf H x.0 (Send x.1 c.args.v) x.2 x.3 (in_inbox old.items) (in_inbox new.items) x.4)
+                      (λ i. (r.config_is i, (r.worker ∙ c.args.place.now.own) i, sym c.of-before.ensures i, sym c.of.ensures i, sym c.done_of.ensures i)) (c.send-answer.ensures.step H),
                 ),
                 search rules,
               ),
@@ -63,8 +65,8 @@ pub returns-clause-done : goal.returns-clause-done
 returns-clause-done g c =
     let key = c.args.self.now.table.shared.key in
     let H = g.M.Model.handlers key.model.value in
-    tried-there H key.config c.args.place.now.seat.me.0 c.claim.new.seat.me.0 c.of-before.result.value c.of.result.value c.args.kernel.now c.send.new.kernel (Send c.args.place.now.worker c.args.v) c.release_visit.new.seat.me.0
-    (took-place (c.if-not-claim.ensures.claimed refl) c.args.place.now.rests) c.of-before.ensures c.of.ensures _ (λ _. Done) c.outcome.result c.outcome.ensures c.release_visit.ensures.done (c.send.ensures.step H).unchanged
+    tried-there H key.config c.args.place.now.seat.me.0 c.claim.new.seat.me.0 c.of-before.result.value c.of.result.value c.args.kernel.now c.send-answer.new.kernel (Send c.args.place.now.worker c.args.v) c.release_visit.new.seat.me.0
+    (took-place (c.if-not-claim.ensures.claimed refl) c.args.place.now.rests) c.of-before.ensures c.of.ensures _ (λ _. Done) c.send-answer.result c.done_of.ensures c.release_visit.ensures.done (c.send-answer.ensures.step H).unchanged
 
 pub invariant_of-place : goal.invariant_of-place
 invariant_of-place g c = refused c.args.place.now c.claim.new.seat c.if-not-claim.ensures.same (c.if-not-claim.ensures.busy refl).0

@@ -9,7 +9,7 @@ use Rattle.vt_steps.specs.declared.step.Reply.{Reply}
 use Rattle.vt_steps.specs.inside.Cells.{Cell, on_board}
 use Rattle.vt_kernel.specs.inside.Held.{HeldWorker, StandsFor}
 use Rattle.vt_board.specs.inside.Calls.{reply_of}
-use Rattle.vt_cells.specs.inside.Calls.{IsCellStepOf, IsCellRefusal, answer_of}
+use Rattle.vt_cells.specs.inside.Calls.{IsCellStepOf, IsCellRefusal, answer_as}
 use Rattle.vt_places.specs.declared.slot.Slot.TheVariants as slot
 use Rattle.vt_places.specs.inside.Calls.{Stays, IsReportRefusal}
 use Rattle.vt_places.proofs.HeldLemmas.{found-is, found-right, puts}
@@ -45,7 +45,7 @@ release_visit-requires-after_bounds g c κs within =
                   puts holds c.slot_mut-held.ensures.value c.in-Board.is (slot.Board new) refl (c.report-answer.ensures.end ∙ found-right holds c.slot_mut-held.ensures.value c.in-Board.is),
                   (λ e. home-not_empty e),
                   subst (λ (x : Config × HeldWorker _ _ _ × HeldWorker _ _ _ × Result Reply Fault). IsCellStepOf H x.0 (Report c.args.place.now.worker) x.1 x.2 (on_board c.in-Board.board.board) (on_board new.board) x.3)
-                      (λ i. ((ap (λ (h : HeldWorker _ _ _). h.config) c.report_values-values.ensures.same ∙ c.requires.kernel.config_is) i, sym c.of-before.ensures i, sym c.of.ensures i, sym c.answer_of.ensures.step i)) (c.report-answer.ensures.step H),
+                      (λ i. ((ap (λ (h : HeldWorker _ _ _). h.config) c.report_values-values.ensures.same ∙ c.requires.kernel.config_is) i, sym c.of-before.ensures i, sym c.of.ensures i, sym c.answer_of.ensures i)) (c.report-answer.ensures.step H),
                 ),
                 search rules,
               ),
@@ -63,10 +63,9 @@ returns-clause-done g c =
     let left = c.report-answer.new.kernel in
     let step = Report c.args.place.now.worker in
     let same = c.report_values-values.ensures.same in
-    let tried = subst (λ (x : HeldWorker _ _ _ × Result Reply Fault). IsCellStepOf H x.0.config step x.0 left (on_board c.in-Board.board.board) (on_board c.report-answer.new.board.board) x.1)
-    (λ i. (same i, sym c.answer_of.ensures.step i)) (c.report-answer.ensures.step H) in
+    let tried = subst (λ (h : HeldWorker _ _ _). IsCellStepOf H h.config step h left (on_board c.in-Board.board.board) (on_board c.report-answer.new.board.board) (answer_as reply_of c.report-answer.result)) same (c.report-answer.ensures.step H) in
     tried-there H key.config c.args.place.now.seat.me.0 c.claim_board.new.seat.me.0 c.of-before.result.value c.of.result.value k left step c.release_visit.new.seat.me.0
-    (c.if-not-claim_board.ensures.claimed refl).place (c.of-before.ensures ∙ same) c.of.ensures _ reply_of c.report-answer.result c.answer_of.ensures.told c.release_visit.ensures.done tried.unchanged
+    (c.if-not-claim_board.ensures.claimed refl).place (c.of-before.ensures ∙ same) c.of.ensures _ reply_of c.report-answer.result c.answer_of.ensures c.release_visit.ensures.done tried.unchanged
 
 pub returns-clause-refused : goal.returns-clause-refused
 returns-clause-refused g c =
@@ -76,8 +75,8 @@ returns-clause-refused g c =
     let t = c.if-not-claim_board.ensures.claimed refl in
     let r = c.requires.kernel in
     let same = c.report_values-values.ensures.same in
-    tried-refused reply_of c.report-answer.result why (sym c.answer_of.ensures.step ∙ c.answer_of.ensures.told)
-    (IfErr-weaker (answer_of c.report-answer.result) _ why
+    tried-refused reply_of c.report-answer.result why
+    (IfErr-weaker (answer_as reply_of c.report-answer.result) _ why
     (λ fault at. report-refused t.known r.steps r.part r.led fault
     (subst (λ (x : Config × ℕ × Cell _). IsCellRefusal (simulation_of H x.0) (Report x.1) r.part x.2 fault) (λ i. ((ap (λ (h : HeldWorker _ _ _). h.config) same ∙ r.config_is) i, sym c.args.place.now.own i, found-is t.holds c.slot_mut-held.ensures.value c.in-Board.is i)) at))
     ((c.report-answer.ensures.step H).refused r.part (subst (λ (h : HeldWorker _ _ _). StandsFor H h r.part) (sym same) r.stands)))
