@@ -10,6 +10,7 @@ mod one_model;
 mod process;
 mod simulation;
 mod starting;
+mod table;
 mod task;
 mod with_files;
 

@@ -15,6 +15,7 @@ ghost use Rattle.vt_tasks.specs.inside.Models.{CarriesOut};
 ghost use Rattle.vt_runner.specs.promise.OneModel.{MakesBy, option_unsettled, IsDoneOf, EndsOf, IsReadOf, AskBadLineOf};
 
 use crate::carry_out;
+use crate::table::{only_model, table_of};
 use std::alloc::Global;
 use std::convert::AsStr;
 use std::io::{Read, Write};
@@ -22,14 +23,9 @@ use std::sync::Wait;
 use std::thread::Threads;
 use vt_key::Fault;
 use vt_model::Model as EventModel;
-use vt_options::{
-    Chosen, ModelOptions, ModelTable, OwnOption, ProgramTexts, Task, Unsettled, settled,
-};
+use vt_options::{Chosen, OwnOption, ProgramTexts, Task, Unsettled, settled};
 use vt_tasks::models_program;
 use vt_watch::Watch;
-
-/// The heading of the options of a model that is the only one.
-pub(crate) const OWN_HEADING: &str = "Options of the model";
 
 /// The streams of a program.
 #[derive(Debug, Drop)]
@@ -159,17 +155,8 @@ where
     ensures unrun { AskBadLineOf M.handlers (λ values made. FnReturnsAt F.Fn make values made) texts.now.name.now own.now (map S.text words.now) (R.remaining streams.old.input) → (result ≢ 0) × Keeps (O.contents streams.old.output) (O.contents streams.new.output) }
     ensures read { IsReadOf M.handlers (λ values made. FnReturnsAt F.Fn make values made) texts.now.name.now own.now (map S.text words.now) (R.remaining streams.old.input) (R.remaining streams.new.input) }
 {
-    let models = [ModelOptions {
-        name: "",
-        heading: OWN_HEADING,
-        options: own,
-    }];
-    let table = ModelTable {
-        naming: None,
-        models: &models,
-        files: &[],
-        programs: false,
-    };
+    let model = only_model(own);
+    let table = table_of(&model, &[]);
     let on_made = move |rt: &H, alloc: Global, chosen: &Chosen<
         '_,
     >, task: &Task, watch: &W, input: &mut R, output: &mut O| -> Result<(), Fault>

@@ -16,7 +16,8 @@ ghost use Rattle.vt_runner.specs.inside.OneModel.{IsRefusedUnasked};
 ghost use Rattle.vt_runner.specs.inside.WithFiles.{AnswersAt, IsDoneWithFiles, IsReadWithFiles, RefusesTask, own_models};
 
 use crate::files::Files;
-use crate::one_model::{Made, OWN_HEADING, Streams, model_program};
+use crate::one_model::{Made, Streams, model_program};
+use crate::table::{only_model, table_of};
 use crate::with_files::{Unmade, model_program_with_files};
 use std::alloc::Global;
 use std::env;
@@ -26,10 +27,7 @@ use std::sync::Wait;
 use std::thread::Threads;
 use vt_key::Fault;
 use vt_model::Model as EventModel;
-use vt_options::{
-    FileOption, ModelOptions, ModelTable, OwnOption, ProgramTexts, hint, taken_among, taken_name,
-    turns_hint,
-};
+use vt_options::{FileOption, OwnOption, ProgramTexts, hint, taken_among, taken_name, turns_hint};
 use vt_tasks::tell_refusal;
 use vt_watch::Watch;
 
@@ -196,17 +194,8 @@ pub fn hint_of_process<H: Env + AllocGlobal>(
     let Ok(words) = words_of(rt) else {
         return None;
     };
-    let models = [ModelOptions {
-        name: "",
-        heading: OWN_HEADING,
-        options: own,
-    }];
-    let table = ModelTable {
-        naming: None,
-        models: &models,
-        files,
-        programs: false,
-    };
+    let model = only_model(own);
+    let table = table_of(&model, files);
     hint(rt.alloc(), texts, &table, words.as_slice())
 }
 
@@ -226,16 +215,7 @@ pub fn turns_hint_of_process<H: Env + AllocGlobal>(
     let Ok(words) = words_of(rt) else {
         return None;
     };
-    let models = [ModelOptions {
-        name: "",
-        heading: OWN_HEADING,
-        options: own,
-    }];
-    let table = ModelTable {
-        naming: None,
-        models: &models,
-        files,
-        programs: false,
-    };
+    let model = only_model(own);
+    let table = table_of(&model, files);
     turns_hint(rt.alloc(), texts, &table, words.as_slice())
 }

@@ -11,7 +11,8 @@ ghost use Rattle.vt_runner.specs.inside.WithFiles.{AnswersAt, AnswersWords, AreF
 
 use crate::carry_out;
 use crate::files::{Files, ReadFault, bytes_of};
-use crate::one_model::{Made, OWN_HEADING, Streams, fault_of, fixed_by};
+use crate::one_model::{Made, Streams, fault_of, fixed_by};
+use crate::table::{only_model, table_of};
 use std::alloc::Global;
 use std::convert::AsStr;
 use std::io::{Read, Write};
@@ -20,8 +21,8 @@ use std::thread::Threads;
 use vt_key::Fault;
 use vt_model::{Config, Model as EventModel};
 use vt_options::{
-    Chosen, FileChoice, FileOption, ModelOptions, ModelTable, OwnOption, ProgramTexts, Request,
-    Task, read_request, settled, shown_sentence,
+    Chosen, FileChoice, FileOption, OwnOption, ProgramTexts, Request, Task, read_request, settled,
+    shown_sentence,
 };
 use vt_tasks::tell_refusal;
 use vt_text::write_bytes;
@@ -225,17 +226,8 @@ where
     requires callable { (values : _) (bytes : _) → length values.now ≡ length own.now → AreWithin own.now values.now → length bytes.now ≡ length files.now → F.pre make.now values bytes }
     ensures { AnswersWords M.handlers (D.told opened.now) (λ values files answer. AnswersAt F.Fn make.now values files answer) texts.now.name.now own.now files.now (map S.text words.now) (R.remaining input.old) (R.remaining input.new) (O.contents output.old) (O.contents output.new) result }
 {
-    let models = [ModelOptions {
-        name: "",
-        heading: OWN_HEADING,
-        options: own,
-    }];
-    let table = ModelTable {
-        naming: None,
-        models: &models,
-        files,
-        programs: false,
-    };
+    let model = only_model(own);
+    let table = table_of(&model, files);
     let (task, chosen) = match read_request(alloc, texts, &table, words) {
         Ok(Request::Task(task, chosen)) => (task, chosen),
         Ok(Request::Help(text)) => return plain(write_bytes(output, text.as_bytes())),
