@@ -68,7 +68,7 @@ impl<P: Copy> Model for Out<P> {
 }
 
 impl<P: Copy> Out<P> {
-    ghost use Rattle.vt_model.specs.inside.Sends.{with_requests};
+    ghost use Rattle.vt_model.specs.inside.Sends.{taken_back, with_requests};
     ghost use Rattle.vt_model.specs.inside.Handler.{IsFresh};
 
     /// The `out` of a handler of process `lp` at time `now`, whose next send number is `number`. For simulators: `lp` is
@@ -180,6 +180,16 @@ impl<P: Copy> Out<P> {
             kind,
             value,
         });
+    }
+
+    /// Takes back what the handler sent and recorded so far: this `out` is as it was when the handler began. For a handler that finds
+    /// out late that it fails.
+    pub fn take_back(&mut self)
+        ensures { self.new ≡ taken_back self.old }
+    {
+        self.number = self.first;
+        clear_sends(&mut self.sends);
+        self.records.clear();
     }
 
     /// The sends below the end of the run, in the order in which they were made. For simulators.

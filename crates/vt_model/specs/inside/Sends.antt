@@ -1,5 +1,5 @@
 -- What a handler asks for, and what becomes of it.
-use Rattle.std.specs.Prelude.{ℕ, ◌+◌, List, ◌++◌, length}
+use Rattle.std.specs.Prelude.{ℕ, ◌+◌, List, [], ◌++◌, length}
 use Rattle.vt_key.specs.promise.Times.{Time}
 use Rattle.vt_model.specs.declared.sending.Sent.{Sent}
 use Rattle.vt_model.specs.declared.rows.Record.{Record}
@@ -24,3 +24,7 @@ with_requests o send_requests record_requests = record o {
   sends = o.sends ++ sent_events o.end o.lp o.time o.number send_requests;
   records = o.records ++ requested_records o.lp o.time record_requests;
 }
+
+-- an out as it was when its handler began
+abbrev pub taken_back : {P : Type 0} → Outgoing P → Outgoing P
+taken_back o = record o { number = o.first; sends = []; records = [] }
