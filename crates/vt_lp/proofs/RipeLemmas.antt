@@ -65,6 +65,17 @@ module _ {P K : Type 0} (floor : Time) where
     | false ↦ refl
   ]
 
+  -- the rows of the next event, which is before the floor, are appended
+  pub rows_on : (e : PastEvent P K) (es : List (PastEvent P K)) (rows : List Row) {all new : List Row} → e.key.time < floor → rows ++ rows_of_ripe floor (e ∷ es) ≡ all → new ≡ rows ++ rows_of e.key e.records →
+      new ++ rows_of_ripe floor es ≡ all
+  rows_on e es rows before told is =
+      let early : e.letter.event.rank.key.time < floor = subst (λ (k : Key). k.time < floor) (sym e.keyed) before in
+      let first : is_ripe floor e ≡ true = grind (arith, nat_tests) in
+      ap (λ (rs : List Row). rs ++ rows_of_ripe floor es) (is ∙ ap (λ (k : Key). rows ++ rows_of k e.records) (sym e.keyed))
+      ∙ append_assoc rows (rows_of e.letter.event.rank.key e.records) (rows_of_ripe floor es)
+      ∙ ap (λ (b : Bool). rows ++ (if b then rows_of e.letter.event.rank.key e.records ++ rows_of_ripe floor es else [])) (sym first)
+      ∙ told
+
   -- where the first isn't before the floor, all stay
   pub unripe_late : (es : List (PastEvent P K)) (e : PastEvent P K) → slice_get es 0 ≡ Some e → floor ≤ e.letter.event.rank.key.time → unripe_events floor es ≡ es
   unripe_late [] e at late = refl

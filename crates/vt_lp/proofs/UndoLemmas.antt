@@ -92,7 +92,7 @@ module _ {S P K : Type 0} (handlers : Handlers S P K) where
   -- the step of each process that the value stands for
   pub undoes : (held : HeldProcess S P K) (h : LogicalProcess P) (past : List (PastEvent P K)) (e : PastEvent P K) (q : ℕ) (now : Triple S) (pending outbox new_outbox : List (Letter P)) →
       StandsFor handlers held h → held.past ≡ past ++ e ∷ [] → must_undo_last held.pending held.waiting (last_or None held.past) ≡ true → IsOwnEvent held.config held.lp e →
-      q ≡ held.lp → now ≡ way_back handlers q e held.triple → pending ≡ insert_letter e.letter held.pending → new_outbox ≡ outbox ++ e.anti_messages →
+      q ≡ held.lp → now ≡ way_back handlers q e held.triple → pending ≡ insert_letter e.letter held.pending → new_outbox ≡ outbox ++ e.undo_entry.anti_messages →
       IsDone handlers (record { lp = held.lp; config = held.config; triple = now; past = past; pending = pending; waiting = held.waiting }) (undo_process h) outbox new_outbox 0 0
   unfolding effect_of_undo
   undoes held h past e q now pending outbox new_outbox s longer forced mine own back put box =
@@ -121,7 +121,7 @@ module _ {S P K : Type 0} (handlers : Handlers S P K) where
           leads = subst (λ (t : Triple S). LeadTo sim p (triple_after sim p h.done) (map (remembered handlers p) past) t)
               (ap (λ d. way_back handlers d e held.triple) (sym own) ∙ sym back) gone.leads;
         };
-        letters = box ∙ ap (λ (xs : List (Letter P)). outbox ++ xs) (minus-again held.config.lps (end_of held.config) e.anti_messages mine.ready);
+        letters = box ∙ ap (λ (xs : List (Letter P)). outbox ++ xs) (minus-again held.config.lps (end_of held.config) e.undo_entry.anti_messages mine.ready);
         serials = refl;
       }
 

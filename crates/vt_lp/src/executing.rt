@@ -162,11 +162,11 @@ fn advance<M: EventModel>(
         }
     };
     let undo_entry = UndoEntry {
+        anti_messages,
         kept,
         bits,
         drawn,
         number,
-        anti_messages,
     };
     Ok((undo_entry, messages))
 }

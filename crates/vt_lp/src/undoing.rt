@@ -42,11 +42,11 @@ impl<M: EventModel> Lp<M> {
         };
         let (letter, undo_entry) = last.into_value().into_parts();
         let UndoEntry {
+            mut anti_messages,
             kept,
             bits,
             drawn,
             number,
-            mut anti_messages,
         } = undo_entry;
         let sent = unstamped(&letter.get().event);
         self.process.undo(model, sent, bits, kept, drawn, number);

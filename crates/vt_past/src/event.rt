@@ -14,24 +14,18 @@ pub struct PastEvent<P: Copy, K: Copy> {
     pub key: Key,
     /// The message that brought the event, in its own node: an undo moves it back.
     pub letter: Parcel<Letter<P>>,
-    /// The anti-messages of what the event sent, in the order of the sends.
-    pub anti_messages: List<Letter<P>>,
-    /// What `forward` kept.
-    pub kept: K,
-    /// The flags that `forward` set.
-    pub bits: Bits,
-    /// How many random words the event drew.
-    pub drawn: u32,
-    /// The send number before the event.
-    pub number: u64,
+    /// What else the event's undo needs.
+    pub undo_entry: UndoEntry<P, K>,
     /// The records that the event made.
     pub records: Records,
     ghost keyed: { letter.event.rank.key ≡ key },
 }
 
-/// What the undo and the commit of an executed event need, beside its records.
+/// What the undo of an executed event needs, beside its letter.
 #[derive(Drop)]
 pub struct UndoEntry<P: Copy, K: Copy> {
+    /// The anti-messages of what the event sent, in the order of the sends.
+    pub anti_messages: List<Letter<P>>,
     /// What `forward` kept.
     pub kept: K,
     /// The flags that `forward` set.
@@ -40,6 +34,4 @@ pub struct UndoEntry<P: Copy, K: Copy> {
     pub drawn: u32,
     /// The send number before the event.
     pub number: u64,
-    /// The anti-messages of what the event sent, in the order of the sends.
-    pub anti_messages: List<Letter<P>>,
 }

@@ -2,7 +2,7 @@
 
 ghost use Rattle.std.specs.Prelude.{◌≡◌, ◌≤◌, length, IfOk, IfErr};
 ghost use Rattle.vt_model.specs.declared.limits.TheConstants.{MAX_RECORDS};
-ghost use Rattle.vt_past.specs.inside.Events.{past_event, undo_entry_of};
+ghost use Rattle.vt_past.specs.inside.Events.{past_event};
 
 use crate::event::{PastEvent, UndoEntry};
 use crate::records::Records;
@@ -24,7 +24,15 @@ impl<P: Copy, K: Copy> PastEvent<P, K> {
         ensures made { IfOk result (λ parcel. parcel ≡ past_event letter undo_entry records.now) }
         ensures letter_returned { IfErr result (λ refused. refused ≡ letter) }
     {
-        match Parcel::new(alloc, past_event(letter, undo_entry, records)) {
+        let mut items = Records::new();
+        items.set(records);
+        let event = PastEvent {
+            key: letter.get().event.rank.key,
+            letter,
+            undo_entry,
+            records: items,
+        };
+        match Parcel::new(alloc, event) {
             Ok(event) => Ok(event),
             Err(event) => Err(event.into_parts().0),
         }
@@ -32,57 +40,14 @@ impl<P: Copy, K: Copy> PastEvent<P, K> {
 
     /// The letter, and what else the undo of this event needs.
     pub fn into_parts(self) -> (Parcel<Letter<P>>, UndoEntry<P, K>)
-        ensures { (result.0 ≡ self.letter) × (result.1 ≡ undo_entry_of self) }
+        ensures { (result.0 ≡ self.letter) × (result.1 ≡ self.undo_entry) }
     {
         let PastEvent {
-            records: _,
             key: _,
             letter,
-            anti_messages,
-            kept,
-            bits,
-            drawn,
-            number,
+            undo_entry,
+            records: _,
         } = self;
-        (
-            letter,
-            UndoEntry {
-                kept,
-                bits,
-                drawn,
-                number,
-                anti_messages,
-            },
-        )
-    }
-}
-
-/// The past event of this letter, which left this undo entry and these records.
-fn past_event<P: Copy, K: Copy>(
-    letter: Parcel<Letter<P>>,
-    undo_entry: UndoEntry<P, K>,
-    records: &[Record],
-) -> PastEvent<P, K>
-    requires few { length records.now ≤ MAX_RECORDS }
-    ensures { result ≡ past_event letter undo_entry records.now }
-{
-    let UndoEntry {
-        kept,
-        bits,
-        drawn,
-        number,
-        anti_messages,
-    } = undo_entry;
-    let mut items = Records::new();
-    items.set(records);
-    PastEvent {
-        records: items,
-        key: letter.get().event.rank.key,
-        letter,
-        anti_messages,
-        kept,
-        bits,
-        drawn,
-        number,
+        (letter, undo_entry)
     }
 }

@@ -14,7 +14,7 @@ use Rattle.vt_pool.proofs.InsideLemmas.{last-there}
 
 module _ {P K : Type 0} where
   -- an event more
-  pub nodes-more : (i : ℕ) (event : PastEvent P K) (es : List (Placed P K)) → sum_by nodes_of (es ++ record { index = i; event = event } ∷ []) ≡ sum_by nodes_of es + (1 + length event.anti_messages)
+  pub nodes-more : (i : ℕ) (event : PastEvent P K) (es : List (Placed P K)) → sum_by nodes_of (es ++ record { index = i; event = event } ∷ []) ≡ sum_by nodes_of es + (1 + length event.undo_entry.anti_messages)
   nodes-more i event es =
       let e : Placed P K = record { index = i; event = event } in
       let both : sum_by nodes_of (es ++ e ∷ []) ≡ sum_by nodes_of es + sum_by nodes_of (e ∷ []) = sum_by-append nodes_of es (e ∷ []) in
@@ -23,7 +23,7 @@ module _ {P K : Type 0} where
 
   -- an event less
   pub nodes-less : (i : ℕ) (event : PastEvent P K) (es : List (Placed P K)) → last_or None (past_at i es) ≡ Some event
-      → sum_by nodes_of es ≡ sum_by nodes_of (without_last_at i es) + (1 + length event.anti_messages)
+      → sum_by nodes_of es ≡ sum_by nodes_of (without_last_at i es) + (1 + length event.undo_entry.anti_messages)
   nodes-less i event es last =
       let e : Placed P K = record { index = i; event = event } in
       let t = last-there i event es last in

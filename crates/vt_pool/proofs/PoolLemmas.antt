@@ -62,7 +62,7 @@ module _ {S P K : Type 0} {config : Config} {w : ℕ} {stock : Stock S P K} {str
   -- after Undo
   pub pool-undone : (i : ℕ) (now : Triple S) (event : PastEvent P K) (before after : Stream) (left : ℕ) (letters : HeldOutbox P) → last_or None (past_at i stock.past) ≡ Some event → now.number ≤ MAX_COUNT
       → slice_get streams i ≡ Some before → after.key ≡ before.key → after.process ≡ before.process
-      → letters ≡ record outbox { letters = outbox.letters ++ event.anti_messages } → kept ≤ left + (1 + length event.anti_messages)
+      → letters ≡ record outbox { letters = outbox.letters ++ event.undo_entry.anti_messages } → kept ≤ left + (1 + length event.undo_entry.anti_messages)
       → IsPoolInside config w (undone_in i event now stock) (slice_set streams i after) letters serial reached heard left
   pool-undone i now event before after left letters last few at key process sent less =
       let t = last-there i event stock.past last in
@@ -70,7 +70,7 @@ module _ {S P K : Type 0} {config : Config} {w : ℕ} {stock : Stock S P K} {str
       let by_rank = λ (a b : Letter P). rank_before (letter_rank a) (letter_rank b) in
       let enough = h.enough in
       let nodes = nodes-less i event stock.past last in
-      let ready = ready-within config.lps (end_of config) event.anti_messages mine.own.ready in
+      let ready = ready-within config.lps (end_of config) event.undo_entry.anti_messages mine.own.ready in
       record {
         known = h.known;
         inside = undone-inside h.inside i now event h.known last few;
@@ -81,7 +81,7 @@ module _ {S P K : Type 0} {config : Config} {w : ℕ} {stock : Stock S P K} {str
             (every-last_there i event stock.past t (λ (e : Placed P K). IsHeard heard (placed_rank e).stamp) h.heard_past) h.heard_pending;
         heard_past = every-left_there i event stock.past t (λ (e : Placed P K). IsHeard heard (placed_rank e).stamp) h.heard_past;
         enough = omega (arith, enough, nodes, less);
-        sendable = subst (λ (o : HeldOutbox P). AllWithinRun config o.letters) (sym sent) (All-append (IsWithinRun config.lps (end_of config)) outbox.letters event.anti_messages h.sendable ready);
+        sendable = subst (λ (o : HeldOutbox P). AllWithinRun config o.letters) (sym sent) (All-append (IsWithinRun config.lps (end_of config)) outbox.letters event.undo_entry.anti_messages h.sendable ready);
         by_worker = ap (λ (o : HeldOutbox P). o.config) sent ∙ h.by_worker;
         few_made = h.few_made;
       }

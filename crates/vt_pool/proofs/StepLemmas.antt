@@ -115,7 +115,7 @@ module _ {S P K : Type 0} (handlers : Handlers S P K) (held : HeldWorker S P K) 
       → number_at held.config held.worker i < held.config.lps → slice_get stock.triples i ≡ Some triple
       → last_or None (past_at i stock.past) ≡ Some e → IsOwnEvent held.config (number_at held.config held.worker i) e → IsRising stock.pending
       → must_undo_last (letters_to (number_at held.config held.worker i) stock.pending) (letters_to (number_at held.config held.worker i) stock.waiting) (Some e) ≡ true
-      → now ≡ way_back handlers (number_at held.config held.worker i) e triple → outbox ≡ held.outbox ++ e.anti_messages
+      → now ≡ way_back handlers (number_at held.config held.worker i) e triple → outbox ≡ held.outbox ++ e.undo_entry.anti_messages
       → IsDone handlers (record held { processes = processes_in held.config held.worker (undone_in i e now stock); outbox = outbox }) (part_after handlers held (Undo (number_at held.config held.worker i)) part)
   undo-done i triple now e outbox within at last mine rises forced back box =
       let config = held.config in

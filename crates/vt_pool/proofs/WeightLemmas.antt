@@ -15,7 +15,7 @@ use Rattle.vt_pool.proofs.KeptLemmas.{nodes-less}
 pub undone-weight : {S P K : Type 0} (handlers : Handlers S P K) (i : ℕ) (event : PastEvent P K) (triple : Triple S) (pool : HeldPool S P K) → last_or None (past_at i pool.stock.past) ≡ Some event
     → weight_of (pool_after_undo handlers i event triple pool) < weight_of pool
 undone-weight handlers i event triple pool last =
-    let sent = length-append pool.outbox event.anti_messages in
+    let sent = length-append pool.outbox event.undo_entry.anti_messages in
     let nodes = nodes-less i event pool.stock.past last in
     omega (arith, sent, nodes)
 

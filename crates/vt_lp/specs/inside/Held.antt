@@ -39,16 +39,16 @@ module _ {S P K : Type 0} (handlers : Handlers S P K) where
   -- the drawn words given back
   abbrev pub way_back : ℕ → PastEvent P K → Triple S → Triple S
   way_back p e now = record {
-    state = handlers.reverse p e.letter.event.rank.key.time e.letter.event.payload now.state e.bits e.kept;
-    number = e.number;
-    place = (now.place + (2 ^ 64 - e.drawn)) % 2 ^ 64;
+    state = handlers.reverse p e.letter.event.rank.key.time e.letter.event.payload now.state e.undo_entry.bits e.undo_entry.kept;
+    number = e.undo_entry.number;
+    place = (now.place + (2 ^ 64 - e.undo_entry.drawn)) % 2 ^ 64;
   }
 
   -- what a past event is as memory of a world's entry
   abbrev pub remembered : ℕ → PastEvent P K → Remembered S P
   remembered p e = record {
     event = e.letter.event;
-    sent = map (λ letter. letter.event) e.anti_messages;
+    sent = map (λ letter. letter.event) e.undo_entry.anti_messages;
     rows = rows_of e.letter.event.rank.key e.records;
     back = way_back p e;
   }
@@ -95,9 +95,9 @@ pub record IsReady {P : Type 0} (lps : ℕ) (end : Time) (letter : Letter P) : T
 -- a past event of process p
 pub record IsOwnEvent {P K : Type 0} (config : Config) (p : ℕ) (e : PastEvent P K) : Type 0 where
   pub own : IsOwnLetter p (end_of config) Plus e.letter
-  pub few : e.drawn ≤ MAX_DRAWS
-  pub numbered : e.number ≤ MAX_COUNT
-  pub ready : All (IsReady config.lps (end_of config)) e.anti_messages
+  pub few : e.undo_entry.drawn ≤ MAX_DRAWS
+  pub numbered : e.undo_entry.number ≤ MAX_COUNT
+  pub ready : All (IsReady config.lps (end_of config)) e.undo_entry.anti_messages
 
 module _ {P K : Type 0} where
   -- the ranks of past events rise strictly: each is after this one's

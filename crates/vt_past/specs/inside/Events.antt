@@ -1,4 +1,4 @@
--- How an executed event becomes a past one, what its undo needs of it, and the rank of the last one.
+-- How an executed event becomes a past one, and the rank of the last one.
 use Rattle.std.specs.Prelude.{refl, List, Option, Some, None}
 use Rattle.std.specs.List.{last_or}
 use Rattle.vt_key.specs.declared.order.Rank.{Rank}
@@ -13,23 +13,9 @@ module _ {P K : Type 0} where
   past_event letter undo_entry records = record {
     key = letter.event.rank.key;
     letter = letter;
-    kept = undo_entry.kept;
-    bits = undo_entry.bits;
-    drawn = undo_entry.drawn;
-    number = undo_entry.number;
+    undo_entry = undo_entry;
     records = records;
-    anti_messages = undo_entry.anti_messages;
     keyed = refl;
-  }
-
-  -- what the undo of a past event needs, beside its letter
-  abbrev pub undo_entry_of : PastEvent P K → UndoEntry P K
-  undo_entry_of event = record {
-    kept = event.kept;
-    bits = event.bits;
-    drawn = event.drawn;
-    number = event.number;
-    anti_messages = event.anti_messages;
   }
 
   -- the rank of the last past event, if there is one

@@ -59,7 +59,7 @@ module _ {P K : Type 0} where
 
   -- how many nodes the undo of an event takes: one for its letter, and one for each anti-message
   abbrev pub nodes_of : Placed P K → ℕ
-  nodes_of e = 1 + length e.event.anti_messages
+  nodes_of e = 1 + length e.event.undo_entry.anti_messages
 
 -- a stamp has no greater serial than was noted of its worker
 abbrev pub IsHeard : List ℕ → Stamp → Type 0

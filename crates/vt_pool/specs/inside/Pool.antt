@@ -20,7 +20,7 @@ use Rattle.vt_pool.specs.inside.Share.{HeldPool}
 -- the pool after Undo of this past event, the last one of the process at an index
 abbrev pub pool_after_undo : {S P K : Type 0} → Handlers S P K → ℕ → PastEvent P K → Triple S → HeldPool S P K → HeldPool S P K
 pool_after_undo handlers i event triple pool =
-    record pool { stock = undone_in i event (way_back handlers (number_at pool.config pool.worker i) event triple) pool.stock; outbox = pool.outbox ++ event.anti_messages }
+    record pool { stock = undone_in i event (way_back handlers (number_at pool.config pool.worker i) event triple) pool.stock; outbox = pool.outbox ++ event.undo_entry.anti_messages }
 
 -- the pool where these anti-messages wait
 abbrev pub with_waiting : {S P K : Type 0} → List (Letter P) → HeldPool S P K → HeldPool S P K

@@ -13,7 +13,6 @@ use Rattle.vt_model.specs.promise.Settings.{end_of}
 use Rattle.vt_steps.specs.promise.Letters.{unstamped}
 use Rattle.vt_past.specs.declared.event.PastEvent.{PastEvent}
 use Rattle.vt_past.specs.declared.event.UndoEntry.{UndoEntry}
-use Rattle.vt_past.specs.inside.Events.{undo_entry_of}
 use Rattle.vt_lp.specs.inside.Held.{HeldProcess, StandsFor, AllWithinRun, IsWithinRun, IsOwnEvent, IsNotPending}
 use Rattle.vt_lp.proofs.UndoLemmas.{undo-none, undoes, inside-less, All-front, ready-within, length-insert}
 use Rattle.vt_lp.proofs.ProcessView.{process_view}
@@ -30,9 +29,9 @@ returns-then-not-must_undo_last-clause-refused g c h s =
     undo-none handlers held h (sym c.must_undo_last.ensures ∙ c.if-not-must_undo_last.true) now
 
 -- what the event is taken apart into
-parts : (g : Over) (c : After-into_parts-letter g) → (c.into_parts-letter.result.0 ≡ c.in-Some.last.letter) × (c.into_parts-letter.result.1 ≡ undo_entry_of c.in-Some.last)
+parts : (g : Over) (c : After-into_parts-letter g) → (c.into_parts-letter.result.0 ≡ c.in-Some.last.letter) × (c.into_parts-letter.result.1 ≡ c.in-Some.last.undo_entry)
 parts g c =
-    (c.into_parts-letter.ensures.0 ∙ ap (λ (e : PastEvent _ _). e.letter) c.into_value.ensures, c.into_parts-letter.ensures.1 ∙ ap (λ (e : PastEvent _ _). undo_entry_of e) c.into_value.ensures)
+    (c.into_parts-letter.ensures.0 ∙ ap (λ (e : PastEvent _ _). e.letter) c.into_value.ensures, c.into_parts-letter.ensures.1 ∙ ap (λ (e : PastEvent _ _). e.undo_entry) c.into_value.ensures)
 
 -- the last past event is one of the process's own
 own : (g : Over) (c : After-into_parts-letter g) → IsOwnEvent c.self.inside.config c.self.inside.lp c.in-Some.last
@@ -85,9 +84,9 @@ returns-clause-within g c =
     let l = c.self.inside in
     let e = c.in-Some.last in
     let sent = c.append.ensures.0 ∙ ap (λ (entry : UndoEntry _ _). c.args.outbox.now ++ entry.anti_messages) (parts g (goal.at.returns-clause-within g c).After-into_parts-letter).1 in
-    let ready = ready-within l.config.lps (end_of l.config) e.anti_messages (own g (goal.at.returns-clause-within g c).After-into_parts-letter).ready in
+    let ready = ready-within l.config.lps (end_of l.config) e.undo_entry.anti_messages (own g (goal.at.returns-clause-within g c).After-into_parts-letter).ready in
     subst (λ (v : HeldProcess _ _ _). AllWithinRun v.config c.args.outbox.now → AllWithinRun v.config c.append.new.self) c.self.view_is
-    (λ all. subst (λ (xs : List (Letter _)). AllWithinRun l.config xs) (sym sent) (All-append (IsWithinRun l.config.lps (end_of l.config)) c.args.outbox.now e.anti_messages all ready))
+    (λ all. subst (λ (xs : List (Letter _)). AllWithinRun l.config xs) (sym sent) (All-append (IsWithinRun l.config.lps (end_of l.config)) c.args.outbox.now e.undo_entry.anti_messages all ready))
 
 pub returns-clause-shorter : goal.returns-clause-shorter
 returns-clause-shorter g c =

@@ -160,7 +160,7 @@ kept-after g c =
     λ j. record { triples = sym (map-put standing i.processes.items c.args.index c.undo_entry.new.process) j; past = sym events j; pending = sym pending j; waiting = i.waiting }
 
 -- the outbox after it
-sent-after : (g : Over) (c : After-put g) → c.post.new.outbox ≡ record c.self.inside.outbox { letters = c.self.inside.outbox.letters ++ (placed c.self.inside.worker c.in-Some.ensures.0).event.anti_messages }
+sent-after : (g : Over) (c : After-put g) → c.post.new.outbox ≡ record c.self.inside.outbox { letters = c.self.inside.outbox.letters ++ (placed c.self.inside.worker c.in-Some.ensures.0).event.undo_entry.anti_messages }
 sent-after g c =
     let i = c.self.inside in
     let e = c.in-Some.ensures.0 in
@@ -244,7 +244,7 @@ returns-clause-undone g c event triple last at =
     let event_is = same_Some event0 event (sym (last-is i.worker c.args.index e i.log.events c.in-Some.ensures.1) ∙ last0) in
     let triple_is = same_Some (standing before) triple (sym (get-map_of (λ (q : Process _ _ _ _). standing q) i.processes.items c.args.index before (there g c)) ∙ at0) in
     (λ j. record old { stock = sym (kept-after g c) j; outbox = (sent-after g c j).letters })
-    ∙ (λ j. record old { stock = undone_in c.args.index event0 (back g c j) old.stock; outbox = old.outbox ++ event0.anti_messages })
+    ∙ (λ j. record old { stock = undone_in c.args.index event0 (back g c j) old.stock; outbox = old.outbox ++ event0.undo_entry.anti_messages })
     ∙ (λ j. pool_after_undo handlers c.args.index (event_is j) (triple_is j) old)
     ∙ ap (λ (v : HeldPool _ _ _). pool_after_undo handlers c.args.index event triple v) c.self.view_is
 
