@@ -53,13 +53,13 @@ module _ {N : ℕ} where
   pub trapped-event : (g : Guest N) (lps lp : ℕ) (now : Time) (w : Words) (s : Process N) (words : ℕ → ℕ) (why : Reason) → s.failed ≡ 0 → (event_run g lps lp now w s words).end ≡ Err why
       → guest_forward g lps lp now w s words ≡ trap_gives s (event_run g lps lp now w s words).handling.drawn (trap_value why (event_run g lps lp now w s words).handling.machine.place)
   trapped-event g lps lp now w s words why whole e =
-      let x = (event_run g lps lp now w s words).handling in
-      (λ j. if whole-test s.failed whole j then event_gives s (e j) x else trap_gives s 0 s.failed)
+      let run = event_run g lps lp now w s words in
+      (λ j. if whole-test s.failed whole j then event_gives s (e j) run.handling run.sends run.notes else trap_gives s 0 s.failed)
 
   pub failed-event : (g : Guest N) (lps lp : ℕ) (now : Time) (w : Words) (s : Process N) (words : ℕ → ℕ) → 0 < s.failed → guest_forward g lps lp now w s words ≡ trap_gives s 0 s.failed
   failed-event g lps lp now w s words some =
       let run = event_run g lps lp now w s words in
-      ap (λ (b : Bool). if b then event_gives s run.end run.handling else trap_gives s 0 s.failed) (failed-test s.failed some)
+      ap (λ (b : Bool). if b then event_gives s run.end run.handling run.sends run.notes else trap_gives s 0 s.failed) (failed-test s.failed some)
 
   pub trap_gives-event : (s : Process N) (drawn value : ℕ) (gives : ForwardResult (Process N) Words (Process N)) → gives ≡ trap_gives s drawn value → IsTrapEvent s value gives
   trap_gives-event s drawn value gives e = record {
@@ -69,8 +69,8 @@ module _ {N : ℕ} where
   }
 
   failed-start : (g : Guest N) (lps lp : ℕ) (words : ℕ → ℕ) (why : Reason) → (start_run g lps lp words).end ≡ Err why
-      → guest_start g lps lp words ≡ start_gives lp g.first (Err why) (start_run g lps lp words).handling
-  failed-start g lps lp words why e = ap (λ end. start_gives lp g.first end (start_run g lps lp words).handling) e
+      → guest_start g lps lp words ≡ start_gives lp g.first (Err why) (start_run g lps lp words).handling (start_run g lps lp words).sends
+  failed-start g lps lp words why e = ap (λ end. start_gives lp g.first end (start_run g lps lp words).handling (start_run g lps lp words).sends) e
 
   pub start-fails : (g : Guest N) (lps lp : ℕ) (words : ℕ → ℕ) (why : Reason) → (start_run g lps lp words).end ≡ Err why
       → IsFailedStart g lp (trap_value why (start_run g lps lp words).handling.machine.place) (guest_start g lps lp words)

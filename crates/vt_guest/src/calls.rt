@@ -1,12 +1,14 @@
 //! The calls of the simulator.
 
-ghost use Rattle.std.specs.Prelude.{◌≡◌, ◌+◌, ◌<◌, ◌≤◌, length};
+ghost use Rattle.std.specs.Prelude.{◌≡◌, ◌+◌, ◌<◌, ◌≤◌, [], ◌∷◌, length};
 ghost use Rattle.vt_model.specs.declared.limits.TheConstants.{MAX_DRAWS, MAX_SENDS, MAX_RECORDS};
-ghost use Rattle.vt_guest.specs.promise.Calls.{most_draws, most_sends, most_records, low, call_of, send_of, emit_of, below_of, lps_of, passed, answered_by};
+ghost use Rattle.vt_model.specs.inside.Handler.{IsSendable};
+ghost use Rattle.vt_model.specs.inside.Sends.{with_requests};
+ghost use Rattle.vt_guest.specs.promise.Calls.{most_draws, most_records, low, call_of, send_of, emit_of, below_of, lps_of, passed, request_of, note_of, answered_by};
 
+use crate::process::Words;
 use crate::trap::{Reason, TRAP};
-use arrayvec::ArrayVec;
-use vt_model::{MAX_DRAWS, MAX_RECORDS, MAX_SENDS};
+use vt_model::{MAX_DRAWS, MAX_RECORDS, Out};
 use vt_riscv::Machine;
 
 /// The handlers that a program has.
@@ -25,17 +27,6 @@ impl Handler {
     {
         match self {
             Handler::Start | Handler::Forward => MAX_DRAWS,
-            Handler::Finish => 0,
-        }
-    }
-
-    /// How many events it may send.
-    pub fn most_sends(self) -> usize
-        ensures most { result ≡ most_sends self }
-        ensures limit { result ≤ MAX_SENDS }
-    {
-        match self {
-            Handler::Start | Handler::Forward => MAX_SENDS,
             Handler::Finish => 0,
         }
     }
@@ -65,32 +56,13 @@ pub(crate) struct Host {
     pub data_size: u64,
 }
 
-/// A send that a program asks for.
-#[derive(Clone, Copy, Default)]
-pub(crate) struct Request {
-    pub dest: u32,
-    pub delay: u64,
-    pub priority: u8,
-    pub a: u64,
-    pub b: u64,
-}
-
-/// A record that a program asks for.
-#[derive(Clone, Copy, Default)]
-pub(crate) struct Note {
-    pub kind: u32,
-    pub value: u64,
-}
-
-/// A handler under way: its machine, and what it has drawn and asked for so far.
+/// A handler under way: its machine, and how many words it has drawn so far.
 #[derive(Drop)]
 pub(crate) struct Handling<const SIZE: usize> {
     pub machine: Machine<SIZE>,
     /// How many steps it may still make.
     pub left: u64,
     pub drawn: u32,
-    pub sends: ArrayVec<Request, MAX_SENDS>,
-    pub notes: ArrayVec<Note, MAX_RECORDS>,
 }
 
 /// How a handler goes on.
@@ -100,6 +72,10 @@ pub(crate) enum Next {
     On,
     /// Once a word is drawn.
     Draw,
+    /// Once an event is sent.
+    Send,
+    /// Once a record is made.
+    Emit,
     /// It has ended.
     Ended,
     /// It trapped.
@@ -117,13 +93,11 @@ fn low(x: u64) -> u32
 impl<const SIZE: usize> Handling<SIZE> {
     // Goes on behind a call that has no answer.
     #[inline(always)]
-    fn pass(&mut self) -> Next
-        ensures next { result ≡ (passed self.old).next }
-        ensures handling { self.new ≡ (passed self.old).handling }
+    fn pass(&mut self)
+        ensures { self.new ≡ passed self.old }
     {
         let same = self.machine.registers[10];
         self.machine.answer(same);
-        Next::On
     }
 
     // A number below another is to be drawn.
@@ -139,12 +113,10 @@ impl<const SIZE: usize> Handling<SIZE> {
         }
     }
 
-    // An event is sent.
-    #[tactic(auto, unfolding(crate::specs::promise::Calls::send_of))]
+    // An event is to be sent.
     #[inline(always)]
-    fn send(&mut self, host: Host) -> Next
-        ensures next { result ≡ (send_of host self.old).next }
-        ensures handling { self.new ≡ (send_of host self.old).handling }
+    fn send(&self, host: Host) -> Next
+        ensures { result ≡ (send_of host self.now).next }
     {
         let dest = low(self.machine.registers[10]);
         let delay = self.machine.registers[11];
@@ -152,43 +124,23 @@ impl<const SIZE: usize> Handling<SIZE> {
         let known = dest < host.lps;
         let ordered = priority < 256;
         let later = delay > 0 || priority > u32::from(host.priority);
-        if !(known && (ordered && later)) {
-            return Next::Trapped(Reason::BadSend);
+        if known && (ordered && later) {
+            Next::Send
+        } else {
+            Next::Trapped(Reason::BadSend)
         }
-        if self.sends.len() >= host.handler.most_sends() {
-            return Next::Trapped(Reason::TooMany);
-        }
-        let request = Request {
-            dest,
-            delay,
-            priority: priority as u8,
-            a: self.machine.registers[13],
-            b: self.machine.registers[14],
-        };
-        self.sends.push(request);
-        self.pass()
     }
 
-    // A record is made.
-    #[tactic(auto, unfolding(crate::specs::promise::Calls::emit_of))]
+    // A record is to be made.
     #[inline(always)]
-    fn emit(&mut self, host: Host) -> Next
-        ensures next { result ≡ (emit_of host self.old).next }
-        ensures handling { self.new ≡ (emit_of host self.old).handling }
+    fn emit(&self) -> Next
+        ensures { result ≡ (emit_of self.now).next }
     {
-        let kind = low(self.machine.registers[10]);
-        if kind == TRAP {
-            return Next::Trapped(Reason::BadCall);
+        if low(self.machine.registers[10]) == TRAP {
+            Next::Trapped(Reason::BadCall)
+        } else {
+            Next::Emit
         }
-        if self.notes.len() >= host.handler.most_records() {
-            return Next::Trapped(Reason::TooMany);
-        }
-        let note = Note {
-            kind,
-            value: self.machine.registers[11],
-        };
-        self.notes.push(note);
-        self.pass()
     }
 
     // The number of processes is asked for.
@@ -216,7 +168,7 @@ impl<const SIZE: usize> Handling<SIZE> {
             0 => self.below(),
             1 => Next::Draw,
             2 => self.send(host),
-            3 => self.emit(host),
+            3 => self.emit(),
             4 => self.lps(host),
             5 => {
                 self.machine.answer(host.data_size);
@@ -240,5 +192,38 @@ impl<const SIZE: usize> Handling<SIZE> {
             u64::from(word)
         };
         self.machine.answer(value);
+    }
+
+    /// The event of a call is sent.
+    #[inline(always)]
+    pub fn send_into(&mut self, out: &mut Out<Words>)
+        requires sendable { IsSendable out.old.lps out.old.time (request_of self.old) }
+        requires room { out.old.number < out.old.first + MAX_SENDS }
+        ensures handling { self.new ≡ passed self.old }
+        ensures out { out.new ≡ with_requests out.old (request_of self.old ∷ []) [] }
+    {
+        let words = Words {
+            a: self.machine.registers[13],
+            b: self.machine.registers[14],
+        };
+        out.send(
+            low(self.machine.registers[10]),
+            self.machine.registers[11],
+            low(self.machine.registers[12]) as u8,
+            words,
+        );
+        self.pass();
+    }
+
+    /// The record of a call is made.
+    #[inline(always)]
+    pub fn emit_into(&mut self, out: &mut Out<Words>)
+        requires { length out.old.records < MAX_RECORDS }
+        ensures handling { self.new ≡ passed self.old }
+        ensures out { out.new ≡ with_requests out.old [] (note_of self.old ∷ []) }
+    {
+        let kind = low(self.machine.registers[10]);
+        out.emit(kind, self.machine.registers[11]);
+        self.pass();
     }
 }

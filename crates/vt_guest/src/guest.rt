@@ -6,7 +6,6 @@ ghost use Rattle.vt_guest.specs.inside.Handlers.{padded, state_size_of};
 
 use crate::calls::{Handler, Handling, Host};
 use crate::process::{Class, Process, StateSize, Words};
-use crate::requests::{record_all, send_all};
 use crate::trap::{TRAP, trap_value};
 use vt_key::When;
 use vt_model::{Bits, Draws, Model as EventModel, Out};
@@ -100,15 +99,13 @@ where
         let host = program.host(Handler::Start, out.lps(), 0);
         let none = Words { a: 0, b: 0 };
         let mut handling = Handling::begin(program.start, program.fuel, lp, 0, 0, none, self.first);
-        match handling.run(&program.code, host, draws) {
-            Ok(()) => {
-                send_all(handling.sends.as_slice(), out);
-                Process {
-                    bytes: handling.machine.state,
-                    failed: 0,
-                }
-            }
+        match handling.run(&program.code, host, draws, out) {
+            Ok(()) => Process {
+                bytes: handling.machine.state,
+                failed: 0,
+            },
             Err(reason) => {
+                out.take_back();
                 out.send(lp, 0, 1, none);
                 Process {
                     bytes: self.first,
@@ -144,13 +141,12 @@ where
             payload,
             before.bytes,
         );
-        match handling.run(&program.code, host, draws) {
-            Ok(()) => {
-                record_all(handling.notes.as_slice(), out);
-                send_all(handling.sends.as_slice(), out);
-                state.bytes = handling.machine.state;
+        match handling.run(&program.code, host, draws, out) {
+            Ok(()) => state.bytes = handling.machine.state,
+            Err(reason) => {
+                out.take_back();
+                out.emit(TRAP, trap_value(reason, handling.machine.place));
             }
-            Err(reason) => out.emit(TRAP, trap_value(reason, handling.machine.place)),
         }
         before
     }
@@ -182,7 +178,7 @@ where
             Words { a: 0, b: 0 },
             state.bytes,
         );
-        match handling.run_drawless(&program.code, host) {
+        match handling.run_finish(&program.code, host) {
             Ok(()) => handling.machine.registers[10],
             Err(_) => u64::MAX,
         }

@@ -1,18 +1,20 @@
 //! The run of a handler.
 
-ghost use Rattle.std.specs.Prelude.{◌≡◌, ◌≤◌, ℕ};
+ghost use Rattle.std.specs.Prelude.{◌≡◌, ℕ, []};
+ghost use Rattle.vt_key.specs.promise.Times.{priority_of};
 ghost use Rattle.vt_stream.specs.inside.Words.{word_of, moved};
 ghost use Rattle.vt_model.specs.inside.Drawn.{drawn_in, stream_in, IsSameSource};
 ghost use Rattle.vt_model.specs.inside.Handler.{IsUndrawn};
-ghost use Rattle.vt_model.specs.declared.limits.TheConstants.{MAX_DRAWS};
-ghost use Rattle.vt_guest.specs.promise.Calls.{most_draws};
+ghost use Rattle.vt_model.specs.inside.Sends.{with_requests};
+ghost use Rattle.vt_model.specs.declared.limits.TheConstants.{MAX_SENDS};
+ghost use Rattle.vt_guest.specs.declared.calls.Handler.TheVariants.{Finish};
+ghost use Rattle.vt_guest.specs.promise.Calls.{most_sends};
 ghost use Rattle.vt_guest.specs.promise.Handling.{blank_stack, begun, turn_of, handled};
 
 use crate::calls::{Handling, Host, Next};
 use crate::process::Words;
 use crate::trap::{Reason, reason_of};
-use arrayvec::ArrayVec;
-use vt_model::Draws;
+use vt_model::{Draws, Out};
 use vt_riscv::{Code, Machine, RETURN, STACK, STATE, Stop};
 
 // The stack at the beginning of a handler.
@@ -80,8 +82,6 @@ impl<const SIZE: usize> Handling<SIZE> {
             },
             left: fuel,
             drawn: 0,
-            sends: ArrayVec::new(),
-            notes: ArrayVec::new(),
         }
     }
 
@@ -102,11 +102,23 @@ impl<const SIZE: usize> Handling<SIZE> {
     }
 
     /// Runs a handler to its end. An error tells why it trapped.
-    pub fn run(&mut self, code: &Code, host: Host, draws: &mut Draws<'_>) -> Result<(), Reason>
+    pub fn run(
+        &mut self,
+        code: &Code,
+        host: Host,
+        draws: &mut Draws<'_>,
+        out: &mut Out<Words>,
+    ) -> Result<(), Reason>
         requires undrawn { IsUndrawn (drawn_in draws.old) (stream_in draws.old) }
         requires fresh { self.old.drawn ≡ 0 }
-        ensures end { result ≡ (handled code.now host (word_of (stream_in draws.old)) self.old.left self.old).end }
-        ensures handling { self.new ≡ (handled code.now host (word_of (stream_in draws.old)) self.old.left self.old).handling }
+        requires unsent { out.old.number ≡ out.old.first }
+        requires unrecorded { out.old.records ≡ [] }
+        requires lps { host.lps ≡ out.old.lps }
+        requires priority { host.priority ≡ priority_of out.old.time }
+        requires most { most_sends host.handler ≡ MAX_SENDS }
+        ensures end { result ≡ (handled code.now host (word_of (stream_in draws.old)) self.old.left self.old [] []).end }
+        ensures handling { self.new ≡ (handled code.now host (word_of (stream_in draws.old)) self.old.left self.old [] []).handling }
+        ensures out { let run = handled code.now host (word_of (stream_in draws.old)) self.old.left self.old [] [] in out.new ≡ with_requests out.old run.sends run.notes }
         ensures same_reference { IsSameSource draws.old draws.new }
         ensures drawn { drawn_in draws.new ≡ self.new.drawn }
         ensures stream { stream_in draws.new ≡ moved (stream_in draws.old) self.new.drawn }
@@ -123,6 +135,18 @@ impl<const SIZE: usize> Handling<SIZE> {
                     let word = draws.word();
                     self.answer(word);
                 }
+                Next::Send => {
+                    if !out.room() {
+                        return Err(Reason::TooMany);
+                    }
+                    self.send_into(out);
+                }
+                Next::Emit => {
+                    if out.records().len() >= host.handler.most_records() {
+                        return Err(Reason::TooMany);
+                    }
+                    self.emit_into(out);
+                }
                 Next::Ended => return Ok(()),
                 Next::Trapped(reason) => return Err(reason),
             }
@@ -130,18 +154,18 @@ impl<const SIZE: usize> Handling<SIZE> {
         Err(Reason::Spent)
     }
 
-    /// Runs a handler that may draw nothing.
-    pub fn run_drawless(&mut self, code: &Code, host: Host) -> Result<(), Reason>
-        requires { most_draws host.handler ≡ 0 }
-        ensures end { (words : ℕ → ℕ) → result ≡ (handled code.now host words self.old.left self.old).end }
-        ensures handling { (words : ℕ → ℕ) → self.new ≡ (handled code.now host words self.old.left self.old).handling }
+    /// Runs a `finish`, which may draw, send and record nothing.
+    pub fn run_finish(&mut self, code: &Code, host: Host) -> Result<(), Reason>
+        requires { host.handler ≡ Finish }
+        ensures end { (words : ℕ → ℕ) → result ≡ (handled code.now host words self.old.left self.old [] []).end }
+        ensures handling { (words : ℕ → ℕ) → self.new ≡ (handled code.now host words self.old.left self.old [] []).handling }
     {
         let mut calls = self.left;
         'calls: while calls > 0 {
             calls -= 1;
             match self.turn(code, host) {
                 Next::On => {}
-                Next::Draw => return Err(Reason::TooMany),
+                Next::Draw | Next::Send | Next::Emit => return Err(Reason::TooMany),
                 Next::Ended => return Ok(()),
                 Next::Trapped(reason) => return Err(reason),
             }

@@ -6,7 +6,6 @@ mod guest;
 mod handling;
 mod loading;
 mod process;
-mod requests;
 mod theorem;
 mod trap;
 

@@ -1,20 +1,20 @@
 -- The calls of the simulator. A program makes one by ECALL: register a7 (x17) has the call's number, a0 (x10) and those behind it have
 -- its arguments, and a0 gets the answer. Nothing else changes.
-use Rattle.std.specs.Prelude.{ℕ, ◌+◌, ◌%◌, ◌^◌, Bool, true, false, ◌&&◌, ◌||◌, not, nat_eq, nat_lt, nat_le, if◌then◌else◌, [], ◌∷◌, ◌++◌, length, slice_index}
+use Rattle.std.specs.Prelude.{ℕ, ◌+◌, ◌%◌, ◌^◌, Bool, true, false, ◌&&◌, ◌||◌, not, nat_eq, nat_lt, nat_le, if◌then◌else◌, slice_index}
 use Rattle.vt_stream.specs.promise.Drawn.{scaled}
 use Rattle.vt_model.specs.declared.limits.TheConstants.{MAX_DRAWS, MAX_SENDS, MAX_RECORDS}
+use Rattle.vt_model.specs.promise.Sends.{SendRequest, RecordRequest}
 use Rattle.vt_riscv.specs.promise.Steps.{answered}
 use Rattle.vt_guest.specs.declared.trap.TheConstants.{TRAP}
 use Rattle.vt_guest.specs.declared.trap.Reason.{Reason}
-use Rattle.vt_guest.specs.declared.trap.Reason.TheVariants.{BadCall, TooMany, BadSend}
+use Rattle.vt_guest.specs.declared.trap.Reason.TheVariants.{BadCall, BadSend}
 use Rattle.vt_guest.specs.declared.calls.Handler.{Handler}
 use Rattle.vt_guest.specs.declared.calls.Handler.TheVariants.{Start, Forward, Finish}
 use Rattle.vt_guest.specs.declared.calls.Host.{Host}
-use Rattle.vt_guest.specs.declared.calls.Request.{Request}
-use Rattle.vt_guest.specs.declared.calls.Note.{Note}
 use Rattle.vt_guest.specs.declared.calls.Handling.{Handling}
 use Rattle.vt_guest.specs.declared.calls.Next.{Next}
-use Rattle.vt_guest.specs.declared.calls.Next.TheVariants.{On, Draw, Trapped}
+use Rattle.vt_guest.specs.declared.calls.Next.TheVariants.{On, Draw, Send, Emit, Trapped}
+use Rattle.vt_guest.specs.declared.process.Words.{Words}
 
 -- how much a handler may draw, send and record
 abbrev pub most_draws : Handler → ℕ
@@ -59,8 +59,8 @@ module _ {N : ℕ} where
   answers x value = record { next = On; handling = record x { machine = answered x.machine value } }
 
   -- no answer: a0 stays
-  abbrev pub passed : Handling N → Turn N
-  passed x = answers x (register x 10)
+  abbrev pub passed : Handling N → Handling N
+  passed x = record x { machine = answered x.machine (register x 10) }
 
   -- a word is to be drawn
   abbrev pub draws : Handling N → Turn N
@@ -74,24 +74,18 @@ module _ {N : ℕ} where
   abbrev pub may_send : Host → Handling N → Bool
   may_send h x = nat_lt (low (register x 10)) h.lps && (nat_lt (low (register x 12)) 256 && (nat_lt 0 (register x 11) || nat_lt h.priority (low (register x 12))))
 
-  abbrev pub request_of : Handling N → Request
-  request_of x = record { dest = low (register x 10); delay = register x 11; priority = low (register x 12); a = register x 13; b = register x 14 }
+  abbrev pub request_of : Handling N → SendRequest Words
+  request_of x = record { dest = low (register x 10); delay = register x 11; priority = low (register x 12); payload = record { a = register x 13; b = register x 14 } }
 
-  abbrev pub with_request : Handling N → Handling N
-  with_request x = record x { sends = record { items = x.sends.items ++ request_of x ∷ [] } }
-
-  unfoldable pub send_of : Host → Handling N → Turn N
-  send_of h x = unless (not (may_send h x)) BadSend x (unless (nat_le (most_sends h.handler) (length x.sends.items)) TooMany x (passed (with_request x)))
+  abbrev pub send_of : Host → Handling N → Turn N
+  send_of h x = unless (not (may_send h x)) BadSend x (record { next = Send; handling = x })
 
   -- 3: emit(kind, value)
-  abbrev pub note_of : Handling N → Note
+  abbrev pub note_of : Handling N → RecordRequest
   note_of x = record { kind = low (register x 10); value = register x 11 }
 
-  abbrev pub with_note : Handling N → Handling N
-  with_note x = record x { notes = record { items = x.notes.items ++ note_of x ∷ [] } }
-
-  unfoldable pub emit_of : Host → Handling N → Turn N
-  emit_of h x = unless (nat_eq (low (register x 10)) TRAP) BadCall x (unless (nat_le (most_records h.handler) (length x.notes.items)) TooMany x (passed (with_note x)))
+  abbrev pub emit_of : Handling N → Turn N
+  emit_of x = unless (nat_eq (low (register x 10)) TRAP) BadCall x (record { next = Emit; handling = x })
 
   -- 4: lps(), which `finish` isn't told
   unfoldable pub lps_of : Host → Handling N → Turn N
@@ -103,7 +97,7 @@ module _ {N : ℕ} where
       if nat_eq n 0 then below_of x
       else (if nat_eq n 1 then draws x
       else (if nat_eq n 2 then send_of h x
-      else (if nat_eq n 3 then emit_of h x
+      else (if nat_eq n 3 then emit_of x
       else (if nat_eq n 4 then lps_of h x
       else (if nat_eq n 5 then answers x h.data_size
       else trapped BadCall x)))))

@@ -1,5 +1,5 @@
 -- What the handlers of a program give.
-use Rattle.std.specs.Prelude.{ℕ, ◌-◌, ◌^◌, nat_eq, if◌then◌else◌, List, [], ◌∷◌, length, map, Result, Ok, Err}
+use Rattle.std.specs.Prelude.{ℕ, ◌-◌, ◌^◌, nat_eq, if◌then◌else◌, List, [], ◌∷◌, length, Result, Ok, Err}
 use Rattle.vt_key.specs.promise.Times.{Time, ticks_of, priority_of}
 use Rattle.vt_model.specs.promise.Handler.{Handlers, StartResult, ForwardResult}
 use Rattle.vt_model.specs.promise.Sends.{SendRequest, RecordRequest}
@@ -8,8 +8,6 @@ use Rattle.vt_guest.specs.declared.trap.Reason.{Reason}
 use Rattle.vt_guest.specs.declared.calls.Handler.{Handler}
 use Rattle.vt_guest.specs.declared.calls.Handler.TheVariants.{Start, Forward, Finish}
 use Rattle.vt_guest.specs.declared.calls.Host.{Host}
-use Rattle.vt_guest.specs.declared.calls.Request.{Request}
-use Rattle.vt_guest.specs.declared.calls.Note.{Note}
 use Rattle.vt_guest.specs.declared.calls.Handling.{Handling}
 use Rattle.vt_guest.specs.declared.process.Words.{Words}
 use Rattle.vt_guest.specs.declared.process.Process.{Process}
@@ -18,13 +16,6 @@ use Rattle.vt_guest.specs.declared.guest.Guest.{Guest}
 use Rattle.vt_guest.specs.promise.Traps.{trap_value}
 use Rattle.vt_guest.specs.promise.Calls.{register}
 use Rattle.vt_guest.specs.promise.Handling.{Handled, begun, handled}
-
--- a send and a record that a program asks for, as the simulator sees them
-abbrev pub asked : Request → SendRequest Words
-asked r = record { dest = r.dest; delay = r.delay; priority = r.priority; payload = record { a = r.a; b = r.b } }
-
-abbrev pub recorded : Note → RecordRequest
-recorded n = record { kind = n.kind; value = n.value }
 
 -- what a handler is told: `finish` isn't told the number of processes
 abbrev pub host_of : Program → Handler → ℕ → ℕ → Host
@@ -44,25 +35,25 @@ NO_VALUE = 2 ^ 64 - 1
 
 module _ {N : ℕ} where
   -- a start gives what its handler came to, and what it sent. If it trapped, the first state is marked, and the alarm is sent
-  abbrev pub start_gives : ℕ → List ℕ → Result (Unit {0}) Reason → Handling N → StartResult (Process N) Words
-  start_gives lp first (Ok _) x = record {
+  abbrev pub start_gives : ℕ → List ℕ → Result (Unit {0}) Reason → Handling N → List (SendRequest Words) → StartResult (Process N) Words
+  start_gives lp first (Ok _) x sends = record {
     state = record { bytes = x.machine.state; failed = 0 };
     drawn = x.drawn;
-    send_requests = map asked x.sends.items;
+    send_requests = sends;
   }
-  start_gives lp first (Err why) x = record {
+  start_gives lp first (Err why) x sends = record {
     state = record { bytes = first; failed = trap_value why x.machine.place };
     drawn = x.drawn;
     send_requests = alarm lp ∷ [];
   }
 
   abbrev pub start_run : Guest N → ℕ → ℕ → (ℕ → ℕ) → Handled N
-  start_run g lps lp words = handled g.program.code (host_of g.program Start lps 0) words g.program.fuel (begun g.program.start g.program.fuel lp 0 0 no_words g.first)
+  start_run g lps lp words = handled g.program.code (host_of g.program Start lps 0) words g.program.fuel (begun g.program.start g.program.fuel lp 0 0 no_words g.first) [] []
 
   abbrev pub guest_start : Guest N → ℕ → ℕ → (ℕ → ℕ) → StartResult (Process N) Words
   guest_start g lps lp words =
       let run = start_run g lps lp words in
-      start_gives lp g.first run.end run.handling
+      start_gives lp g.first run.end run.handling run.sends
 
   -- an event that is a trap changes nothing, sends nothing, and makes one record
   abbrev pub trap_gives : Process N → ℕ → ℕ → ForwardResult (Process N) Words (Process N)
@@ -76,26 +67,26 @@ module _ {N : ℕ} where
   }
 
   -- an event gives what its handler came to, sent and recorded
-  abbrev pub event_gives : Process N → Result (Unit {0}) Reason → Handling N → ForwardResult (Process N) Words (Process N)
-  event_gives s (Ok _) x = record {
+  abbrev pub event_gives : Process N → Result (Unit {0}) Reason → Handling N → List (SendRequest Words) → List RecordRequest → ForwardResult (Process N) Words (Process N)
+  event_gives s (Ok _) x sends notes = record {
     state = record s { bytes = x.machine.state };
     kept = s;
     bits = record { flags = 0 };
     drawn = x.drawn;
-    send_requests = map asked x.sends.items;
-    record_requests = map recorded x.notes.items;
+    send_requests = sends;
+    record_requests = notes;
   }
-  event_gives s (Err why) x = trap_gives s x.drawn (trap_value why x.machine.place)
+  event_gives s (Err why) x sends notes = trap_gives s x.drawn (trap_value why x.machine.place)
 
   abbrev pub event_run : Guest N → ℕ → ℕ → Time → Words → Process N → (ℕ → ℕ) → Handled N
   event_run g lps lp now w s words =
-      handled g.program.code (host_of g.program Forward lps (priority_of now)) words g.program.fuel (begun g.program.forward g.program.fuel lp (ticks_of now) (priority_of now) w s.bytes)
+      handled g.program.code (host_of g.program Forward lps (priority_of now)) words g.program.fuel (begun g.program.forward g.program.fuel lp (ticks_of now) (priority_of now) w s.bytes) [] []
 
   -- at a process that failed no code runs
   abbrev pub guest_forward : Guest N → ℕ → ℕ → Time → Words → Process N → (ℕ → ℕ) → ForwardResult (Process N) Words (Process N)
   guest_forward g lps lp now w s words =
       let run = event_run g lps lp now w s words in
-      if nat_eq s.failed 0 then event_gives s run.end run.handling else trap_gives s 0 s.failed
+      if nat_eq s.failed 0 then event_gives s run.end run.handling run.sends run.notes else trap_gives s 0 s.failed
 
   -- the final value is what `finish` leaves in a0
   abbrev pub value_of : Result (Unit {0}) Reason → Handling N → ℕ
@@ -103,7 +94,7 @@ module _ {N : ℕ} where
   value_of (Err why) x = NO_VALUE
 
   abbrev pub finish_run : Guest N → ℕ → Process N → Handled N
-  finish_run g lp s = handled g.program.code (host_of g.program Finish 0 0) (λ i. 0) g.program.fuel (begun g.program.finish g.program.fuel lp 0 0 no_words s.bytes)
+  finish_run g lp s = handled g.program.code (host_of g.program Finish 0 0) (λ i. 0) g.program.fuel (begun g.program.finish g.program.fuel lp 0 0 no_words s.bytes) [] []
 
   abbrev pub guest_finish : Guest N → ℕ → Process N → ℕ
   guest_finish g lp s =

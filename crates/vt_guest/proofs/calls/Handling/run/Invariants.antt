@@ -1,11 +1,17 @@
-use Rattle.std.proofs.Common.{◌≡◌}
+use Rattle.std.proofs.Common.{◌≡◌, List, []}
 use Rattle.vt_stream.specs.inside.Words.{word_of, moved}
+use Rattle.vt_model.specs.promise.Sends.{SendRequest, RecordRequest}
+use Rattle.vt_model.specs.inside.Sends.{with_requests}
+use Rattle.vt_guest.specs.declared.process.Words.{Words}
 use Rattle.vt_guest.specs.promise.Handling.{handled}
 use Rattle.vt_guest.proofs.calls.Handling.run.Given as goal
 
 abbrev pub invariant-calls : goal.invariant-calls
 invariant-calls g l = record {
-  same_run : handled l.code l.host (word_of l.fn.draws.stream.now) l.calls l.self ≡ handled l.code l.host (word_of l.fn.draws.stream.now) l.fn.self.left l.fn.self;
+  sends : List (SendRequest Words);
+  notes : List RecordRequest;
+  same_run : handled l.code l.host (word_of l.fn.draws.stream.now) l.calls l.self sends notes ≡ handled l.code l.host (word_of l.fn.draws.stream.now) l.fn.self.left l.fn.self [] [];
+  out : l.out ≡ with_requests l.fn.out sends notes;
   drawn : l.draws.drawn ≡ l.self.drawn;
   same_reference : l.draws.stream.ghost_name ≡ l.fn.draws.stream.ghost_name;
   stream : l.draws.stream.now ≡ moved l.fn.draws.stream.now l.self.drawn;
