@@ -3,7 +3,6 @@ use Rattle.std.specs.Prelude.{List, map}
 use Rattle.clap.specs.Words.{Text}
 use Rattle.vt_options.specs.declared.asking.Request.{Request}
 use Rattle.vt_options.specs.declared.asking.Request.TheVariants as request
-use Rattle.vt_options.specs.declared.choices.Task.{Task}
 use Rattle.vt_options.specs.declared.choices.Task.TheVariants.{Run, Replay}
 use Rattle.vt_options.specs.promise.Requests.{AskHelpOf}
 use Rattle.vt_options.specs.promise.Table.{Given}

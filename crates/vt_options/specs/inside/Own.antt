@@ -11,7 +11,7 @@ use Rattle.vt_options.specs.declared.own.ModelOptions.{ModelOptions}
 use Rattle.vt_options.specs.declared.own.ModelTable.{ModelTable}
 use Rattle.vt_options.specs.declared.texts.OptionText.{OptionText}
 use Rattle.vt_options.specs.inside.Line.{valued_names}
-use Rattle.vt_options.specs.promise.Table.{NumberOption, option}
+use Rattle.vt_options.specs.promise.Table.{NumberOption}
 use Rattle.vt_options.specs.promise.Line.{UsedOption, once}
 use Rattle.vt_options.specs.promise.Own.{number_table, has_default, Naming, Models, naming_names, table_names, program_options, run_options, replay_options}
 

@@ -1,7 +1,6 @@
 -- The options of a program, whose file takes the place of a model.
 use Rattle.std.specs.Prelude.{◌≡◌, ℕ, List, slice_get, Some, None}
 use Rattle.clap.specs.Words.{Text}
-use Rattle.vt_options.specs.promise.Table
 use Rattle.vt_options.specs.promise.Programs.{assignment_said}
 
 -- ---- numbers that are set

@@ -1,7 +1,6 @@
 -- What the words of a program's command line ask for, and why they are refused.
 use Rattle.std.specs.Prelude.{◌≡◌, ⊤, List, codes}
 use Rattle.clap.specs.Words.{App, Text}
-use Rattle.clap.specs.declared.error.kind.ErrorKind.TheVariants as kind
 use Rattle.vt_key.specs.declared.fault.Fault.{Fault}
 use Rattle.vt_key.specs.declared.fault.Fault.TheVariants.{Memory, BadOption}
 use Rattle.vt_options.specs.promise.Requests.{Line, IsUnreadableBy, IsRefusedAsOf}

@@ -1,7 +1,6 @@
 -- A request is what the words ask for.
 use Rattle.std.specs.Prelude.{List, map}
 use Rattle.clap.specs.Words.{Text}
-use Rattle.vt_options.specs.declared.asking.Request.TheVariants as request
 use Rattle.vt_options.specs.declared.choices.Task.{Task}
 use Rattle.vt_options.specs.declared.choices.Task.TheVariants.{Run, Replay}
 use Rattle.vt_options.specs.declared.own.Chosen.{Chosen}

@@ -6,7 +6,6 @@ use Rattle.vt_text.specs.promise.Numbers.{number_said}
 use Rattle.vt_options.specs.declared.limits.TheConstants.{MAX_FUEL}
 use Rattle.vt_options.specs.declared.programs.Assignment.{Assignment}
 use Rattle.vt_options.specs.declared.programs.ProgramChoice.{ProgramChoice}
-use Rattle.vt_options.specs.promise.Table
 use Rattle.vt_options.specs.promise.Table.{Given, NumberOption, option, bad, first_name, value_in}
 
 -- the most instructions of a handler
