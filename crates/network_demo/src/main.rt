@@ -20,28 +20,28 @@ static OPTIONS: [OwnOption; 4] = [
         least: 1,
         most: 65_536,
         default: 4,
-        help: "How many routers further a chord leads, 1 to 65536 [default: 4]",
+        help: "How many routers further a chord leads",
     },
     OwnOption {
         name: "gap",
         least: 1,
         most: 1_000_000,
         default: 12,
-        help: "Longest time between two packets of a host in ticks, 1 to 1000000 [default: 12]",
+        help: "Longest time between two packets of a host in ticks",
     },
     OwnOption {
         name: "service",
         least: 1,
         most: 1_000_000,
         default: 4,
-        help: "Ticks that a router works on a packet, 1 to 1000000 [default: 4]",
+        help: "Ticks that a router works on a packet",
     },
     OwnOption {
         name: "link",
         least: 1,
         most: 1_000_000,
         default: 3,
-        help: "Ticks that a packet is on a link, 1 to 1000000 [default: 3]",
+        help: "Ticks that a packet is on a link",
     },
 ];
 

@@ -27,14 +27,14 @@ static OPTIONS: [OwnOption; 2] = [
         least: 0,
         most: 1_000_000,
         default: 3,
-        help: "How often a token is passed on, 0 to 1000000 [default: 3]",
+        help: "How often a token is passed on",
     },
     OwnOption {
         name: "delay",
         least: 1,
         most: MAX_DELAY,
         default: 2,
-        help: "Ticks of a token's way, 1 to 1000000 [default: 2]",
+        help: "Ticks of a token's way",
     },
 ];
 

@@ -8,26 +8,21 @@ use vt_models::{
     MAX_DELAY, MAX_HOPS, MAX_JOBS, MAX_LOOKAHEAD, MAX_POPULATION, MAX_REMOTE, MAX_RISE,
     MAX_SERVICE, MAX_SPAN, MAX_STRIDE, MAX_TRAVEL,
 };
-use vt_options::{GENERAL, ModelOptions, ModelTable, OptionText, OwnOption, ProgramTexts};
+use vt_options::{GENERAL, ModelOptions, ModelTable, OptionText, OwnOption, ProgramTexts, Takes};
 
 const IN_SHORT: &str = "\
 A first run: twarp run (six records of two processes). README.md tells more, docs/MODEL_GUIDE.md
 how to write a model of your own.
 
-Options with ranges and defaults (twarp run --help and twarp replay --help say what they are):
-  every model  --model hop|phold|stations [hop]  --workers 1..256 [1]  --lps 1..65536 [2]
-               --end 1..4611686018427387904 [10]  --seed 0..18446744073709551615 [0]
-               --text 1|2 [2]
-  hop          --hops 0..1000000 [2]  --stride 0..65535 [1]  --delay 1..1000000 [2]
-               --rise 0..255 [0]
-  phold        --population 0..16 [1]  --remote 0..100 [0]  --lookahead 1..1000000 [1]
-               --span 1..1000000 [1]
-  stations     --jobs 0..1000 [1]  --service 1..1000000 [1]  --travel 1..1000000 [1]
+Options (twarp run --help and twarp replay --help say what each is, its range and its default):
+  every model  --model hop|phold|stations  --workers N  --lps N  --end N  --seed N  --text 1|2
+  hop          --hops N  --stride N  --delay N  --rise N
+  phold        --population N  --remote N  --lookahead N  --span N
+  stations     --jobs N  --service N  --travel N
   a program    --program FILE (in the place of --model)  --set NAME=VALUE (any number of times)
-               --data FILE  --fuel 1..4294967296 [1000000]
-  run alone    --synch 1|3 [1]  --turns 1..9223372036854775808 [10000000]
-               --finals  --records yes|no [yes]
-  replay alone --serial 0..9223372036854775808 [0]";
+               --data FILE  --fuel N
+  run alone    --synch 1|3  --turns N  --finals  --records yes|no
+  replay alone --serial N";
 
 /// What help shows of the program: it needs a command.
 pub(crate) static TEXTS: ProgramTexts = ProgramTexts {
@@ -41,8 +36,11 @@ const MODEL: OptionText = OptionText {
     name: "model",
     value: "NAME",
     heading: GENERAL,
-    takes: "hop, phold or stations",
-    help: "Model to simulate: hop, phold or stations [default: hop]",
+    takes: Takes::Words {
+        listed: "hop, phold or stations",
+        default: "hop",
+    },
+    help: "Model to simulate: hop, phold or stations",
 };
 
 /// The models, `hop` first, with their options.
@@ -58,28 +56,28 @@ pub(crate) static MODELS: ModelTable<'static> = ModelTable {
                     least: 0,
                     most: MAX_HOPS,
                     default: 2,
-                    help: "How many times a token is passed on, 0 to 1000000 [default: 2]",
+                    help: "How many times a token is passed on",
                 },
                 OwnOption {
                     name: "stride",
                     least: 0,
                     most: MAX_STRIDE,
                     default: 1,
-                    help: "How many processes further each hop leads, 0 to 65535 [default: 1]",
+                    help: "How many processes further each hop leads",
                 },
                 OwnOption {
                     name: "delay",
                     least: 1,
                     most: MAX_DELAY,
                     default: 2,
-                    help: "Ticks that a hop takes, 1 to 1000000 [default: 2]",
+                    help: "Ticks that a hop takes",
                 },
                 OwnOption {
                     name: "rise",
                     least: 0,
                     most: MAX_RISE,
                     default: 0,
-                    help: "What a hop adds to the priority in place of the delay, 0 to 255 [default: 0]",
+                    help: "What a hop adds to the priority in place of the delay",
                 },
             ],
         },
@@ -92,28 +90,28 @@ pub(crate) static MODELS: ModelTable<'static> = ModelTable {
                     least: 0,
                     most: MAX_POPULATION,
                     default: 1,
-                    help: "Events that each process starts with, 0 to 16 [default: 1]",
+                    help: "Events that each process starts with",
                 },
                 OwnOption {
                     name: "remote",
                     least: 0,
                     most: MAX_REMOTE,
                     default: 0,
-                    help: "Percent of events to a process drawn at random, 0 to 100 [default: 0]",
+                    help: "Percent of events to a process drawn at random",
                 },
                 OwnOption {
                     name: "lookahead",
                     least: 1,
                     most: MAX_LOOKAHEAD,
                     default: 1,
-                    help: "Least ticks from an event to the next, 1 to 1000000 [default: 1]",
+                    help: "Least ticks from an event to the next",
                 },
                 OwnOption {
                     name: "span",
                     least: 1,
                     most: MAX_SPAN,
                     default: 1,
-                    help: "Ticks drawn on top of the lookahead, below this: 1 to 1000000 [default: 1]",
+                    help: "Ticks drawn on top of the lookahead (below N)",
                 },
             ],
         },
@@ -126,21 +124,21 @@ pub(crate) static MODELS: ModelTable<'static> = ModelTable {
                     least: 0,
                     most: MAX_JOBS,
                     default: 1,
-                    help: "Jobs that each station has at the start, 0 to 1000 [default: 1]",
+                    help: "Jobs that each station has at the start",
                 },
                 OwnOption {
                     name: "service",
                     least: 1,
                     most: MAX_SERVICE,
                     default: 1,
-                    help: "Longest service of a job in ticks, drawn from 1 on, 1 to 1000000 [default: 1]",
+                    help: "Longest service of a job in ticks, drawn from 1 on",
                 },
                 OwnOption {
                     name: "travel",
                     least: 1,
                     most: MAX_TRAVEL,
                     default: 1,
-                    help: "Ticks of a job's way to the next station, 1 to 1000000 [default: 1]",
+                    help: "Ticks of a job's way to the next station",
                 },
             ],
         },

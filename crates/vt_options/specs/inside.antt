@@ -4,6 +4,7 @@ pub mod Requests
 pub mod Own
 pub mod Asked
 pub mod Tasks
+pub mod Texts
 pub mod Taken
 pub mod Shown
 pub mod Hints

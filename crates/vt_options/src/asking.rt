@@ -4,6 +4,7 @@ ghost use Rattle.std.specs.Prelude.{◌≡◌, ◌++◌, [], List, None, Some, I
 ghost use Rattle.clap.specs.Words.{Text, fault_of, subcommand_of, subcommand_rows_of, first_value, found_of, HasKind};
 ghost use Rattle.vt_options.specs.promise.Line.{once};
 ghost use Rattle.vt_options.specs.inside.Line.{helps_of, options_of, texts_in};
+ghost use Rattle.vt_options.specs.inside.Texts.{help_of, own_help};
 ghost use Rattle.vt_options.specs.promise.Table.{lps, value_in};
 ghost use Rattle.vt_options.specs.promise.Programs.{value_given};
 ghost use Rattle.vt_options.specs.promise.Own.{GiveModel, GivePaths, GiveProgram, number_table, path_of, table_names, naming_names, app_for, line_for, program_options, run_options, replay_options, first_bad_of_program, first_bad_of_run, first_bad_of_replay};
@@ -11,9 +12,10 @@ ghost use Rattle.vt_options.specs.inside.Own.{AllHaveDefaults, NamesBad, models_
 ghost use Rattle.vt_options.specs.inside.Requests.{IsRefusedByOf};
 ghost use Rattle.vt_options.specs.inside.Asked.{AsksReplay, AsksRun, IsAsked};
 
+use crate::helping::{parsed_in, told_options};
 use crate::line::{LineOption, ProgramTexts, Uses, matches_in};
 use crate::models::{model_option, model_values};
-use crate::own::{Chosen, FileOption, ModelOptions, ModelTable, OwnOption, file_options};
+use crate::own::{Chosen, FileOption, ModelOptions, ModelTable, OwnOption, file_options, range_of};
 use crate::programs::{lps_given, program_option};
 use crate::reading::{
     config_options, finals_option, number_option, records_option, synch_option, text_option,
@@ -21,13 +23,14 @@ use crate::reading::{
 use crate::refusing::help_of;
 use crate::texts::{
     DATA, END, FILES_HEADING, FINALS, FUEL, LPS, OptionText, PROGRAM, RECORDS, REPLAY_WORKERS,
-    SEED, SERIAL, SET, SYNCH, TEXT, TURNS, WORKERS,
+    SEED, SERIAL, SET, SYNCH, TEXT, TURNS, Takes, WORKERS,
 };
-use crate::{MAX_TURNS, ReplaySettings, RunSettings, Task};
+use crate::{ReplaySettings, RunSettings, Task, limits};
+use clap::error::ErrorKind;
 use clap::{ArgMatches, Error};
 use std::alloc::{AllocError, Global};
 use std::convert::AsStr;
-use vt_key::{Fault, MAX_COUNT};
+use vt_key::Fault;
 
 /// What the command line of a program asks for.
 #[derive(Debug, Drop)]
@@ -135,8 +138,8 @@ static OF_A_PROGRAM: [LineOption; 4] = [
 ];
 
 /// An option that a line gives once at most, with a value.
-fn once(text: OptionText) -> LineOption
-    ensures { (result.text ≡ text) × (result.uses ≡ Uses.Once) }
+fn once(text: OptionText<'static>) -> LineOption<'static>
+    ensures { (result.text ≡ text.entry) × (result.uses ≡ Uses.Once) }
 {
     LineOption {
         text,
@@ -145,7 +148,10 @@ fn once(text: OptionText) -> LineOption
 }
 
 /// Adds these options to a list.
-fn add_all(list: &mut Vec<LineOption>, more: &[LineOption]) -> Result<(), AllocError>
+fn add_all(
+    list: &mut Vec<LineOption<'static>>,
+    more: &[LineOption<'static>],
+) -> Result<(), AllocError>
     ensures { IfOk result (λ _. options_of list.new.items ≡ options_of list.old.items ++ options_of more.now) }
 {
     for option in more {
@@ -155,7 +161,7 @@ fn add_all(list: &mut Vec<LineOption>, more: &[LineOption]) -> Result<(), AllocE
 }
 
 /// Adds the option that names the model to a list, where there is one.
-fn add_naming(list: &mut Vec<LineOption>, table: &ModelTable<'_>) -> Result<(), AllocError>
+fn add_naming(list: &mut Vec<LineOption<'static>>, table: &ModelTable<'_>) -> Result<(), AllocError>
     ensures { IfOk result (λ _. options_of list.new.items ≡ options_of list.old.items ++ map once (naming_names (models_of table.now).naming)) }
 {
     if let Some(text) = &table.naming {
@@ -165,28 +171,28 @@ fn add_naming(list: &mut Vec<LineOption>, table: &ModelTable<'_>) -> Result<(), 
 }
 
 /// What help shows of an option of a model.
-fn own_text(heading: &'static str, option: &OwnOption) -> OptionText
+fn own_text(heading: &'static str, option: &OwnOption) -> OptionText<'static>
     ensures name { result.name.now ≡ option.now.name.now }
     ensures heading { result.heading.now ≡ heading.now }
-    ensures help { result.help.now ≡ option.now.help.now }
+    ensures help { help_of result ≡ own_help option.now }
 {
     OptionText {
         name: option.name,
         value: "N",
         heading,
-        takes: "",
+        takes: Takes::Number(range_of(option)),
         help: option.help,
     }
 }
 
 /// Adds the options of a model to a list.
 fn add_own(
-    list: &mut Vec<LineOption>,
+    list: &mut Vec<LineOption<'static>>,
     heading: &'static str,
     own: &[OwnOption],
 ) -> Result<(), AllocError>
     ensures options { IfOk result (λ _. options_of list.new.items ≡ options_of list.old.items ++ map once (map (λ o. o.name) (number_table own.now))) }
-    ensures helps { IfOk result (λ _. helps_of list.new.items ≡ helps_of list.old.items ++ map (λ o. o.help.now) own.now) }
+    ensures helps { IfOk result (λ _. helps_of list.new.items ≡ helps_of list.old.items ++ map own_help own.now) }
 {
     for option in own {
         list.push(once(own_text(heading, option)))?;
@@ -195,7 +201,10 @@ fn add_own(
 }
 
 /// Adds the options of all models to a list.
-fn add_models(list: &mut Vec<LineOption>, models: &[ModelOptions<'_>]) -> Result<(), AllocError>
+fn add_models(
+    list: &mut Vec<LineOption<'static>>,
+    models: &[ModelOptions<'_>],
+) -> Result<(), AllocError>
     ensures { IfOk result (λ _. options_of list.new.items ≡ options_of list.old.items ++ map once (table_names (tables_of models.now))) }
 {
     for model in models {
@@ -205,21 +214,21 @@ fn add_models(list: &mut Vec<LineOption>, models: &[ModelOptions<'_>]) -> Result
 }
 
 /// What help shows of an option that is a file.
-fn file_text(option: &FileOption) -> OptionText
+fn file_text(option: &FileOption) -> OptionText<'static>
     ensures name { result.name.now ≡ option.now.name.now }
-    ensures help { result.help.now ≡ option.now.help.now }
+    ensures help { help_of result ≡ option.now.help.now }
 {
     OptionText {
         name: option.name,
         value: "FILE",
         heading: FILES_HEADING,
-        takes: "",
+        takes: Takes::Other("a file"),
         help: option.help,
     }
 }
 
 /// Adds the options that are files to a list.
-fn add_files(list: &mut Vec<LineOption>, files: &[FileOption]) -> Result<(), AllocError>
+fn add_files(list: &mut Vec<LineOption<'static>>, files: &[FileOption]) -> Result<(), AllocError>
     ensures { IfOk result (λ _. options_of list.new.items ≡ options_of list.old.items ++ map once (file_names files.now)) }
 {
     for option in files {
@@ -229,7 +238,7 @@ fn add_files(list: &mut Vec<LineOption>, files: &[FileOption]) -> Result<(), All
 }
 
 /// Adds the options of programs to a list, where the table lets them take a model's place.
-fn add_programs(list: &mut Vec<LineOption>, programs: bool) -> Result<(), AllocError>
+fn add_programs(list: &mut Vec<LineOption<'static>>, programs: bool) -> Result<(), AllocError>
     ensures { IfOk result (λ _. options_of list.new.items ≡ options_of list.old.items ++ program_options programs) }
 {
     if programs {
@@ -243,12 +252,12 @@ fn add_programs(list: &mut Vec<LineOption>, programs: bool) -> Result<(), AllocE
 fn line_options(
     alloc: Global,
     table: &ModelTable<'_>,
-    first: &[LineOption],
-    last: &[LineOption],
-) -> Result<Vec<LineOption>, AllocError>
+    first: &[LineOption<'static>],
+    last: &[LineOption<'static>],
+) -> Result<Vec<LineOption<'static>>, AllocError>
     ensures { IfOk result (λ list. options_of list.items ≡ options_round (models_of table.now) (options_of first.now) (options_of last.now)) }
 {
-    let mut list = Vec::new(alloc);
+    let mut list: Vec<LineOption<'static>> = Vec::new(alloc);
     add_naming(&mut list, table)?;
     add_all(&mut list, first)?;
     add_models(&mut list, table.models)?;
@@ -259,14 +268,20 @@ fn line_options(
 }
 
 /// The options of `run`, in the order in which they are tested.
-fn run_options(alloc: Global, table: &ModelTable<'_>) -> Result<Vec<LineOption>, AllocError>
+fn run_options(
+    alloc: Global,
+    table: &ModelTable<'_>,
+) -> Result<Vec<LineOption<'static>>, AllocError>
     ensures { IfOk result (λ list. options_of list.items ≡ run_options (models_of table.now)) }
 {
     line_options(alloc, table, &RUN_FIRST, &RUN_LAST)
 }
 
 /// The options of `replay`, in the order in which they are tested.
-fn replay_options(alloc: Global, table: &ModelTable<'_>) -> Result<Vec<LineOption>, AllocError>
+fn replay_options(
+    alloc: Global,
+    table: &ModelTable<'_>,
+) -> Result<Vec<LineOption<'static>>, AllocError>
     ensures { IfOk result (λ list. options_of list.items ≡ replay_options (models_of table.now)) }
 {
     line_options(alloc, table, &REPLAY_FIRST, &REPLAY_LAST)
@@ -316,7 +331,7 @@ fn read_run<'a>(
     let synch = synch_option(matches)?;
     let config = config_options(matches)?;
     let values = model_values(alloc, matches, table.models, model)?;
-    let turns = number_option(matches, "turns", 1, MAX_TURNS, 10_000_000)?;
+    let turns = number_option(matches, "turns", limits::TURNS)?;
     let text = text_option(matches)?;
     let finals = finals_option(matches, text)?;
     let records = records_option(matches, text)?;
@@ -344,7 +359,7 @@ fn read_replay<'a>(
     let model = model_option(matches, table)?;
     let config = config_options(matches)?;
     let values = model_values(alloc, matches, table.models, model)?;
-    let serial = number_option(matches, "serial", 0, MAX_COUNT, 0)?;
+    let serial = number_option(matches, "serial", limits::SERIAL)?;
     let text = text_option(matches)?;
     let settings = ReplaySettings {
         config,
@@ -369,6 +384,44 @@ pub(crate) fn table_matches<'a, S: AsStr>(
     let run = run_options(alloc, table)?;
     let replay = replay_options(alloc, table)?;
     matches_in(alloc, texts, run.as_slice(), replay.as_slice(), words)
+}
+
+/// What the parser makes of a command line where help shows of each option which values it takes.
+fn parsed_with_helps<S: AsStr>(
+    alloc: Global,
+    texts: &ProgramTexts,
+    table: &ModelTable<'_>,
+    words: &[S],
+) -> Result<(), Error>
+    ensures ok { IfOk result (λ _. fault_of (app_for texts.now.name.now (models_of table.now)) (map S.text words.now) ≡ []) }
+    ensures err { IfErr result (HasKind (fault_of (app_for texts.now.name.now (models_of table.now)) (map S.text words.now))) }
+{
+    let run = run_options(alloc, table)?;
+    let replay = replay_options(alloc, table)?;
+    let run = told_options(alloc, run.as_slice())?;
+    let replay = told_options(alloc, replay.as_slice())?;
+    parsed_in(alloc, texts, run.as_slice(), replay.as_slice(), words)
+}
+
+/// The parser's error as it is told: where it shows help, each option with the values that it takes. Only help needs their texts, so
+/// they are made for it alone.
+fn told_error<S: AsStr>(
+    alloc: Global,
+    texts: &ProgramTexts,
+    table: &ModelTable<'_>,
+    words: &[S],
+    error: Error,
+) -> Error
+    requires { HasKind (fault_of (app_for texts.now.name.now (models_of table.now)) (map S.text words.now)) error }
+    ensures { HasKind (fault_of (app_for texts.now.name.now (models_of table.now)) (map S.text words.now)) result }
+{
+    if error.kind() != ErrorKind::DisplayHelp {
+        return error;
+    }
+    match parsed_with_helps(alloc, texts, table, words) {
+        Ok(()) => error,
+        Err(told) => told,
+    }
 }
 
 /// The request of a command line that the parser has accepted.
@@ -418,6 +471,9 @@ pub fn read_request<'a, S: AsStr>(
 {
     match table_matches(alloc, texts, table, words) {
         Ok(matches) => request_of(alloc, &matches, table),
-        Err(error) => Ok(Request::Help(help_of(alloc, error)?)),
+        Err(error) => {
+            let told = told_error(alloc, texts, table, words, error);
+            Ok(Request::Help(help_of(alloc, told)?))
+        }
     }
 }

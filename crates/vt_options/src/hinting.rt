@@ -15,10 +15,10 @@ use crate::asking::{Request, read_request, table_matches};
 use crate::choices::Task;
 use crate::limits::MAX_TURNS;
 use crate::line::ProgramTexts;
-use crate::own::{ModelTable, OwnOption};
+use crate::own::{ModelTable, OwnOption, range_of};
 use crate::programs::unset_in;
 use crate::shown::{shown_sentence, shown_word};
-use crate::texts::{EVERY_MODEL, OF_PROGRAMS, OptionText};
+use crate::texts::{EVERY_MODEL, OF_PROGRAMS, OptionText, Takes, allowed_text};
 use clap::error::ErrorKind;
 use clap::{ArgMatches, Error};
 use std::alloc::Global;
@@ -26,7 +26,7 @@ use std::convert::AsStr;
 use vt_key::Fault;
 
 /// Which values an option takes, where a table has it.
-fn takes_of(options: &[OptionText], name: &str) -> Option<&'static str> {
+fn takes_of(options: &[OptionText<'_>], name: &str) -> Option<Takes> {
     for option in options {
         if option.name == name {
             return Some(option.takes);
@@ -89,31 +89,28 @@ fn hint_on_error(alloc: Global, program: &str, error: Error) -> Option<String>
 }
 
 /// Which values an option of a model takes, where a table has it.
-fn own_takes(alloc: Global, own: &[OwnOption], name: &str) -> Option<String> {
+fn own_takes(own: &[OwnOption], name: &str) -> Option<Takes> {
     for option in own {
         if option.name == name {
-            let least = option.least;
-            let most = option.most;
-            return format!(in alloc; "{least} to {most}").ok();
+            return Some(Takes::Number(range_of(option)));
         }
     }
     None
 }
 
 /// Which values an option of a program of these models takes.
-fn table_takes(alloc: Global, table: &ModelTable<'_>, name: &str) -> Option<String> {
+fn table_takes(table: &ModelTable<'_>, name: &str) -> Option<Takes> {
     if let Some(naming) = &table.naming {
         if naming.name == name {
-            return naming.takes.to_string(alloc).ok();
+            return Some(naming.takes);
         }
     }
     for model in table.models {
-        if let Some(takes) = own_takes(alloc, model.options, name) {
+        if let Some(takes) = own_takes(model.options, name) {
             return Some(takes);
         }
     }
-    let takes = takes_of(&EVERY_MODEL, name).or(takes_of(&OF_PROGRAMS, name));
-    takes?.to_string(alloc).ok()
+    takes_of(&EVERY_MODEL, name).or(takes_of(&OF_PROGRAMS, name))
 }
 
 /// The word that is refused of those that an option is given: of `set`, where it belongs to programs, the first that sets nothing, and
@@ -145,8 +142,9 @@ fn hint_on_matches(
         return hint_on_finals(alloc, program);
     }
     let word = refused_word(inner, table.programs, name)?;
-    let takes = table_takes(alloc, table, name)?;
-    hint_on_option(alloc, program, name, takes.as_str(), word)
+    let takes = table_takes(table, name)?;
+    let allowed = allowed_text(alloc, &takes).ok()?;
+    hint_on_option(alloc, program, name, allowed.as_str(), word)
 }
 
 /// A line for a terminal where [`read_request`] refuses a command line: which word it was, and what is allowed. There is one only for

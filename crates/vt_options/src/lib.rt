@@ -8,6 +8,7 @@
 
 mod asking;
 mod choices;
+mod helping;
 mod hinting;
 mod limits;
 mod line;
@@ -24,11 +25,11 @@ mod texts;
 pub use asking::{Request, read_request};
 pub use choices::{ReplaySettings, RunSettings, Synch, Task};
 pub use hinting::{hint, turns_hint};
-pub use limits::{MAX_FUEL, MAX_TURNS};
+pub use limits::{MAX_FUEL, MAX_TURNS, NumberRange};
 pub use line::ProgramTexts;
 pub use own::{Chosen, FileChoice, FileOption, ModelOptions, ModelTable, OwnOption};
 pub use processes::{Unsettled, settled};
 pub use programs::{Assignment, ProgramChoice};
 pub use shown::{SENTENCE_COLUMNS, WORD_COLUMNS, shown_sentence, shown_word};
 pub use taken::{taken_among, taken_name};
-pub use texts::{GENERAL, OptionText};
+pub use texts::{GENERAL, OptionText, Takes};

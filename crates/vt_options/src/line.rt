@@ -43,15 +43,15 @@ pub(crate) enum Uses {
 
 /// An option of a subcommand.
 #[derive(Debug, Clone, Copy)]
-pub(crate) struct LineOption {
+pub(crate) struct LineOption<'a> {
     /// What help shows of it.
-    pub(crate) text: OptionText,
+    pub(crate) text: OptionText<'a>,
     /// How a line may use it.
     pub(crate) uses: Uses,
 }
 
 /// An option as the parser takes it.
-fn option<'a>(alloc: Global, option: &LineOption) -> Arg<'a>
+fn option<'a>(alloc: Global, option: &LineOption<'a>) -> Arg<'a>
     ensures rule { rule_of result ≡ option_rule (option_of option.now) }
     ensures local { result.global ≡ false }
 {
@@ -72,7 +72,7 @@ fn command_of<'a>(
     alloc: Global,
     name: &'a str,
     about: &'static str,
-    options: &[LineOption],
+    options: &[LineOption<'a>],
 ) -> Result<Command<'a>, AllocError>
     ensures app { IfOk result (λ c. app_of c ≡ with_options (new_app name.entry.now) (options_of options.now)) }
     ensures local { IfOk result (λ c. (out-Command c).has_globals ≡ false) }
@@ -90,7 +90,7 @@ fn with_command<'a>(
     program: Command<'a>,
     name: &'a str,
     about: &'static str,
-    options: &[LineOption],
+    options: &[LineOption<'a>],
 ) -> Result<Command<'a>, AllocError>
     ensures { IfOk result (λ c. app_of c ≡ with_subcommand (app_of program.entry) (with_options (new_app name.entry.now) (options_of options.now)).top) }
 {
@@ -104,8 +104,8 @@ fn with_command<'a>(
 fn program_command<'a>(
     alloc: Global,
     texts: &ProgramTexts,
-    run: &[LineOption],
-    replay: &[LineOption],
+    run: &[LineOption<'a>],
+    replay: &[LineOption<'a>],
 ) -> Result<Command<'a>, AllocError>
     ensures { IfOk result (λ c. app_of c ≡ program_app texts.now.name.now (options_of run.now) (options_of replay.now)) }
 {
@@ -125,8 +125,8 @@ fn program_command<'a>(
 pub(crate) fn matches_in<'a, S: AsStr>(
     alloc: Global,
     texts: &ProgramTexts,
-    run: &[LineOption],
-    replay: &[LineOption],
+    run: &[LineOption<'a>],
+    replay: &[LineOption<'a>],
     words: &'a [S],
 ) -> Result<ArgMatches<'a>, Error>
     ensures ok { IfOk result (λ m. subcommand_rows_of m ≡ subcommand_of (program_app texts.now.name.now (options_of run.now) (options_of replay.now)) (map S.text words.entry.now)) }

@@ -1,11 +1,14 @@
 //! The options of models of one's own, as tables.
 
-ghost use Rattle.std.specs.Prelude.{◌≡◌, None, IfOk, IfErr, map};
+ghost use Rattle.std.specs.Prelude.{◌≡◌, ◌<◌, ◌^◌, None, Some, IfOk, IfErr, map, true};
 ghost use Rattle.clap.specs.Words.{first_value, found_of};
-ghost use Rattle.vt_options.specs.promise.Table.{first_bad_of};
-ghost use Rattle.vt_options.specs.promise.Own.{HaveDefaults, AreWithin, GivePaths, GiveValues, number_table, path_of};
+ghost use Rattle.vt_model.specs.promise.Settings.{is_between};
+ghost use Rattle.vt_options.specs.promise.Table.{first_bad_of, value_in};
+ghost use Rattle.vt_options.specs.promise.Own.{HaveDefaults, AreWithin, GivePaths, GiveValues, has_default, number_option, number_table, path_of};
 ghost use Rattle.vt_options.specs.inside.Own.{NamesBad, file_names};
+ghost use Rattle.vt_options.specs.inside.Texts.{range_of};
 
+use crate::limits::NumberRange;
 use crate::programs::ProgramChoice;
 use crate::reading::small_option;
 use crate::texts::OptionText;
@@ -24,7 +27,7 @@ pub struct OwnOption {
     pub most: u32,
     /// Its value if it isn't given, from `least` to `most`.
     pub default: u32,
-    /// What help says of it: what it is, with its range and its default.
+    /// What it is, in a phrase. Help shows its range and its default behind it.
     pub help: &'static str,
 }
 
@@ -52,7 +55,7 @@ pub struct ModelOptions<'a> {
 #[derive(Debug, Clone, Copy)]
 pub struct ModelTable<'a> {
     /// The option that names the model. If it isn't given, the first model is meant. None: the first is always meant.
-    pub naming: Option<OptionText>,
+    pub naming: Option<OptionText<'static>>,
     /// The models, in the order in which their options are tested.
     pub models: &'a [ModelOptions<'a>],
     /// The options that are paths of files. Each model has them.
@@ -86,6 +89,31 @@ pub struct Chosen<'a> {
     pub program: Option<ProgramChoice<'a>>,
 }
 
+/// The numbers that an option of a model takes.
+pub(crate) fn range_of(own: &OwnOption) -> NumberRange
+    ensures range { result ≡ range_of own.now }
+    ensures small { result.most < 2 ^ 32 }
+{
+    NumberRange {
+        least: u64::from(own.least),
+        most: u64::from(own.most),
+        default: u64::from(own.default),
+    }
+}
+
+/// The value of an option of a model; its default if it isn't given.
+///
+/// [`Fault::BadOption`]: it is no number in its range.
+fn own_option(matches: &ArgMatches, own: &OwnOption) -> Result<u32, Fault>
+    requires { has_default own.now ≡ true }
+    ensures ok { IfOk result (λ n. value_in (first_value (found_of matches.now)) (number_option own.now) ≡ Some n) }
+    ensures within { IfOk result (λ n. is_between own.now.least own.now.most n ≡ true) }
+    ensures err { IfErr result (λ fault. fault ≡ Fault.BadOption own.now.name) }
+    ensures none { IfErr result (λ _. value_in (first_value (found_of matches.now)) (number_option own.now) ≡ None) }
+{
+    small_option(matches, own.name, range_of(own))
+}
+
 /// The values of the options of a model, in the order of their table. Each is in its range; an option that isn't given has
 /// its default.
 ///
@@ -104,7 +132,7 @@ pub(crate) fn own_options(
 {
     let mut values = Vec::new(alloc);
     for own in table {
-        let value = small_option(matches, own.name, own.least, own.most, own.default)?;
+        let value = own_option(matches, own)?;
         let Ok(()) = values.push(value) else {
             return Err(Fault::Memory);
         };

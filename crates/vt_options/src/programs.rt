@@ -10,7 +10,7 @@ ghost use Rattle.vt_options.specs.inside.Programs.{SetsNothing};
 ghost use Rattle.vt_options.specs.promise.Own.{GiveProgram, bad_program, first_bad_of_program};
 ghost use Rattle.vt_options.specs.inside.Own.{NamesBad, models_of, naming_of};
 
-use crate::limits::MAX_FUEL;
+use crate::limits::FUEL;
 use crate::own::ModelTable;
 use crate::reading::number_option;
 use crate::texts::OptionText;
@@ -102,7 +102,7 @@ fn set_options<'a>(alloc: Global, matches: &ArgMatches<'a>) -> Result<Vec<Assign
 /// [`Fault::BadOption`] with `program`: a model is named too.
 fn file_option<'a>(
     matches: &ArgMatches<'a>,
-    naming: &Option<OptionText>,
+    naming: &Option<OptionText<'_>>,
 ) -> Result<Option<&'a str>, Fault>
     ensures ok { IfOk result (λ file. first_value (found_of matches.now) (codes "program") ≡ option_map (λ name. name.now) file) }
     ensures good { (names : List (List ℕ)) → IfOk result (λ _. bad_program (naming_of naming.now names) (first_value (found_of matches.now)) ≡ None) }
@@ -146,7 +146,7 @@ pub(crate) fn program_option<'a>(
     }
     let file = file_option(matches, &table.naming)?;
     let sets = set_options(alloc, matches)?;
-    let fuel = number_option(matches, "fuel", 1, MAX_FUEL, 1_000_000)?;
+    let fuel = number_option(matches, "fuel", FUEL)?;
     let Some(file) = file else {
         return Ok(None);
     };

@@ -1,6 +1,6 @@
 //! Options, read from the matches of a command line.
 
-ghost use Rattle.std.specs.Prelude.{◌≡◌, ◌<◌, Some, None, IfOk, IfErr, codes, true};
+ghost use Rattle.std.specs.Prelude.{◌≡◌, ◌<◌, ◌^◌, Some, None, IfOk, IfErr, codes, true};
 ghost use Rattle.clap.specs.Words.{first_value, found_of};
 ghost use Rattle.vt_key.specs.promise.Faults.{fault_number, option_named};
 ghost use Rattle.vt_model.specs.promise.Settings.{is_between};
@@ -8,72 +8,58 @@ ghost use Rattle.vt_options.specs.promise.Table.{number_in, synch_in, version_in
 ghost use Rattle.vt_options.specs.promise.Settings.{GiveConfig};
 
 use crate::Synch;
+use crate::limits::{END, LPS, NumberRange, SEED, WORKERS};
 use clap::ArgMatches;
-use vt_key::{Fault, MAX_END, MAX_PROCESSES, MAX_WORKERS};
+use vt_key::Fault;
 use vt_model::Config;
 use vt_text::{Version, read_number};
 
-/// The number that the words give to an option, from `least` to `most`; `default` if they give it none.
+/// The number that the words give to an option, in its range; the default if they give it none.
 ///
 /// [`Fault::BadOption`]: it is no number in this range.
-fn number_given(
-    matches: &ArgMatches,
-    name: &'static str,
-    least: u64,
-    most: u64,
-    default: u64,
-) -> Result<u64, Fault>
-    ensures ok { IfOk result (λ n. number_in least most default (first_value (found_of matches.now) name.entry.now) ≡ Some n) }
+fn number_given(matches: &ArgMatches, name: &'static str, range: NumberRange) -> Result<u64, Fault>
+    ensures ok { IfOk result (λ n. number_in range.least range.most range.default (first_value (found_of matches.now) name.entry.now) ≡ Some n) }
     ensures err { IfErr result (λ fault. fault ≡ Fault.BadOption name.entry) }
-    ensures none { IfErr result (λ _. number_in least most default (first_value (found_of matches.now) name.entry.now) ≡ None) }
+    ensures none { IfErr result (λ _. number_in range.least range.most range.default (first_value (found_of matches.now) name.entry.now) ≡ None) }
 {
     let Some(text) = matches.get_str(name) else {
-        return Ok(default);
+        return Ok(range.default);
     };
     match read_number(text.as_bytes()) {
-        Some(n) if least <= n && n <= most => Ok(n),
+        Some(n) if range.least <= n && n <= range.most => Ok(n),
         _ => Err(Fault::BadOption(name)),
     }
 }
 
-/// An option that is a number of up to 64 bits, from `least` to `most`; `default` if it isn't given.
+/// An option that is a number of up to 64 bits, in this range; its default if it isn't given.
 pub(crate) fn number_option(
     matches: &ArgMatches,
     name: &'static str,
-    least: u64,
-    most: u64,
-    default: u64,
+    range: NumberRange,
 ) -> Result<u64, Fault>
-    requires { is_between least most default ≡ true }
-    ensures ok { IfOk result (λ n. number_in least most default (first_value (found_of matches.now) name.entry.now) ≡ Some n) }
-    ensures within { IfOk result (λ n. is_between least most n ≡ true) }
+    requires { is_between range.least range.most range.default ≡ true }
+    ensures ok { IfOk result (λ n. number_in range.least range.most range.default (first_value (found_of matches.now) name.entry.now) ≡ Some n) }
+    ensures within { IfOk result (λ n. is_between range.least range.most n ≡ true) }
     ensures err { IfErr result (λ fault. fault ≡ Fault.BadOption name.entry) }
-    ensures none { IfErr result (λ _. number_in least most default (first_value (found_of matches.now) name.entry.now) ≡ None) }
+    ensures none { IfErr result (λ _. number_in range.least range.most range.default (first_value (found_of matches.now) name.entry.now) ≡ None) }
 {
-    number_given(matches, name, least, most, default)
+    number_given(matches, name, range)
 }
 
-/// An option that is a number of up to 32 bits, from `least` to `most`; `default` if it isn't given.
+/// An option that is a number of up to 32 bits, in this range; its default if it isn't given.
 pub(crate) fn small_option(
     matches: &ArgMatches,
     name: &'static str,
-    least: u32,
-    most: u32,
-    default: u32,
+    range: NumberRange,
 ) -> Result<u32, Fault>
-    requires { is_between least most default ≡ true }
-    ensures ok { IfOk result (λ n. number_in least most default (first_value (found_of matches.now) name.entry.now) ≡ Some n) }
-    ensures within { IfOk result (λ n. is_between least most n ≡ true) }
+    requires small { range.most < 2 ^ 32 }
+    requires default { is_between range.least range.most range.default ≡ true }
+    ensures ok { IfOk result (λ n. number_in range.least range.most range.default (first_value (found_of matches.now) name.entry.now) ≡ Some n) }
+    ensures within { IfOk result (λ n. is_between range.least range.most n ≡ true) }
     ensures err { IfErr result (λ fault. fault ≡ Fault.BadOption name.entry) }
-    ensures none { IfErr result (λ _. number_in least most default (first_value (found_of matches.now) name.entry.now) ≡ None) }
+    ensures none { IfErr result (λ _. number_in range.least range.most range.default (first_value (found_of matches.now) name.entry.now) ≡ None) }
 {
-    let n = number_option(
-        matches,
-        name,
-        u64::from(least),
-        u64::from(most),
-        u64::from(default),
-    )?;
+    let n = number_option(matches, name, range)?;
     Ok(n as u32)
 }
 
@@ -168,9 +154,9 @@ pub(crate) fn config_options(matches: &ArgMatches) -> Result<Config, Fault>
     ensures err { IfErr result (λ fault. fault_number fault ≡ 7) }
     ensures bad { IfErr result (λ fault. option_named fault ≡ first_bad_of (first_value (found_of matches.now)) config_table) }
 {
-    let workers = small_option(matches, "workers", 1, MAX_WORKERS, 1)?;
-    let lps = small_option(matches, "lps", 1, MAX_PROCESSES, 2)?;
-    let end = number_option(matches, "end", 1, MAX_END, 10)?;
-    let seed = number_option(matches, "seed", 0, u64::MAX, 0)?;
+    let workers = small_option(matches, "workers", WORKERS)?;
+    let lps = small_option(matches, "lps", LPS)?;
+    let end = number_option(matches, "end", END)?;
+    let seed = number_option(matches, "seed", SEED)?;
     Config::new(lps, workers, end, seed)
 }

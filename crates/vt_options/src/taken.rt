@@ -9,7 +9,7 @@ use crate::own::{FileOption, OwnOption};
 use crate::texts::{EVERY_MODEL, OptionText};
 
 /// Whether one of these options has the name.
-fn has_text(options: &[OptionText], name: &str) -> bool
+fn has_text(options: &[OptionText<'_>], name: &str) -> bool
     ensures { result ≡ is_among (names_of options.now) name.now }
 {
     for option in options {

@@ -1,18 +1,79 @@
 //! The texts that help shows for the options of every model.
 
+ghost use Rattle.std.specs.Prelude.{◌≡◌, IfOk, string_bytes};
+ghost use Rattle.vt_options.specs.inside.Texts.{allowed, default_after, help_of};
+
+use crate::limits::{self, NumberRange};
+use std::alloc::{AllocError, Global};
+
+/// Which values an option takes, and which one it has if it isn't given.
+#[derive(Debug, Clone, Copy)]
+pub enum Takes {
+    /// A number in this range. Help shows the range and the default behind what the option is.
+    Number(NumberRange),
+    /// One of some words. Help shows the default behind what the option is, which says what each word means.
+    Words {
+        /// The words, as a sentence lists them, for instance `yes or no`.
+        listed: &'static str,
+        /// The one that is meant if the option isn't given.
+        default: &'static str,
+    },
+    /// What else a sentence says that it takes, for instance `a file`. There is no default.
+    Other(&'static str),
+}
+
 /// What help shows of an option.
 #[derive(Debug, Clone, Copy)]
-pub struct OptionText {
+pub struct OptionText<'a> {
     /// The option's name, without its dashes.
     pub name: &'static str,
     /// What stands for its value.
     pub value: &'static str,
     /// The heading under which it stands.
     pub heading: &'static str,
-    /// Which values it takes, as its help says it; empty for an option of a model of one's own.
-    pub takes: &'static str,
-    /// What it is, with its range and its default.
-    pub help: &'static str,
+    /// Which values it takes.
+    pub takes: Takes,
+    /// What it is, in a phrase. Help shows behind it what [`Takes`] says.
+    pub help: &'a str,
+}
+
+/// Which values an option takes, as a sentence says it.
+pub(crate) fn allowed_text(alloc: Global, takes: &Takes) -> Result<String, AllocError>
+    ensures { IfOk result (λ text. string_bytes text ≡ allowed takes.now) }
+{
+    match takes {
+        Takes::Number(range) => {
+            let least = range.least;
+            let most = range.most;
+            format!(in alloc; "{least} to {most}")
+        }
+        Takes::Words { listed, .. } => listed.to_string(alloc),
+        Takes::Other(words) => words.to_string(alloc),
+    }
+}
+
+/// A phrase with a default behind it.
+fn with_default(alloc: Global, phrase: &str, default: &str) -> Result<String, AllocError>
+    ensures { IfOk result (λ text. string_bytes text ≡ default_after phrase.now default.now) }
+{
+    format!(in alloc; "{phrase} [default: {default}]")
+}
+
+/// What help shows of an option: what it is, and its range and default.
+pub(crate) fn help_text(alloc: Global, option: &OptionText<'_>) -> Result<String, AllocError>
+    ensures { IfOk result (λ text. string_bytes text ≡ help_of option.now) }
+{
+    let help = option.help;
+    match option.takes {
+        Takes::Number(range) => {
+            let least = range.least;
+            let most = range.most;
+            let default = range.default;
+            format!(in alloc; "{help}, {least} to {most} [default: {default}]")
+        }
+        Takes::Words { default, .. } => with_default(alloc, help, default),
+        Takes::Other(_) => help.to_string(alloc),
+    }
 }
 
 /// The heading of the options of every model.
@@ -23,8 +84,11 @@ pub(crate) const SYNCH: OptionText = OptionText {
     name: "synch",
     value: "N",
     heading: GENERAL,
-    takes: "1 or 3",
-    help: "1: one thread, in order; 3: Time Warp, a thread for each worker [default: 1]",
+    takes: Takes::Words {
+        listed: "1 or 3",
+        default: "1",
+    },
+    help: "1: one thread, in order; 3: Time Warp, a thread for each worker",
 };
 
 /// The workers of a run.
@@ -32,8 +96,8 @@ pub(crate) const WORKERS: OptionText = OptionText {
     name: "workers",
     value: "N",
     heading: GENERAL,
-    takes: "1 to 256",
-    help: "Worker threads, 1 to 256; not used with --synch 1 [default: 1]",
+    takes: Takes::Number(limits::WORKERS),
+    help: "Worker threads (--synch 3)",
 };
 
 /// The workers of a replay.
@@ -41,8 +105,8 @@ pub(crate) const REPLAY_WORKERS: OptionText = OptionText {
     name: "workers",
     value: "N",
     heading: GENERAL,
-    takes: "1 to 256",
-    help: "Workers, 1 to 256: process P belongs to worker P mod N [default: 1]",
+    takes: Takes::Number(limits::WORKERS),
+    help: "Workers (process P belongs to worker P mod N)",
 };
 
 /// The logical processes.
@@ -50,8 +114,8 @@ pub(crate) const LPS: OptionText = OptionText {
     name: "lps",
     value: "N",
     heading: GENERAL,
-    takes: "1 to 65536",
-    help: "Logical processes, which send events to each other, 1 to 65536 [default: 2]",
+    takes: Takes::Number(limits::LPS),
+    help: "Logical processes, which send events to each other",
 };
 
 /// The end of virtual time.
@@ -59,8 +123,8 @@ pub(crate) const END: OptionText = OptionText {
     name: "end",
     value: "N",
     heading: GENERAL,
-    takes: "1 to 4611686018427387904",
-    help: "Only events before this tick happen, 1 to 4611686018427387904 [default: 10]",
+    takes: Takes::Number(limits::END),
+    help: "Only events before this tick happen",
 };
 
 /// The seed of all random draws.
@@ -68,8 +132,8 @@ pub(crate) const SEED: OptionText = OptionText {
     name: "seed",
     value: "N",
     heading: GENERAL,
-    takes: "0 to 18446744073709551615",
-    help: "Seed of all random draws, 0 to 18446744073709551615 [default: 0]",
+    takes: Takes::Number(limits::SEED),
+    help: "Seed of all random draws",
 };
 
 /// The most turns of a worker.
@@ -77,8 +141,8 @@ pub(crate) const TURNS: OptionText = OptionText {
     name: "turns",
     value: "N",
     heading: GENERAL,
-    takes: "1 to 9223372036854775808",
-    help: "A worker's turns (--synch 3), 1 to 9223372036854775808 [default: 10000000]",
+    takes: Takes::Number(limits::TURNS),
+    help: "A worker's turns (--synch 3)",
 };
 
 /// The first serial of each worker's events.
@@ -86,8 +150,8 @@ pub(crate) const SERIAL: OptionText = OptionText {
     name: "serial",
     value: "N",
     heading: GENERAL,
-    takes: "0 to 9223372036854775808",
-    help: "First serial of each worker's events, 0 to 9223372036854775808 [default: 0]",
+    takes: Takes::Number(limits::SERIAL),
+    help: "First serial of each worker's events",
 };
 
 /// The version of the text of records.
@@ -95,8 +159,11 @@ pub(crate) const TEXT: OptionText = OptionText {
     name: "text",
     value: "N",
     heading: GENERAL,
-    takes: "1 or 2",
-    help: "Version of the text of records: 1 has no priorities, 2 has them [default: 2]",
+    takes: Takes::Words {
+        listed: "1 or 2",
+        default: "2",
+    },
+    help: "Version of the text of records: 1 has no priorities, 2 has them",
 };
 
 /// Whether final values are printed.
@@ -104,7 +171,7 @@ pub(crate) const FINALS: OptionText = OptionText {
     name: "finals",
     value: "",
     heading: GENERAL,
-    takes: "no value",
+    takes: Takes::Other("no value"),
     help: "Prints the final value of each process last, in a line: final PROCESS VALUE",
 };
 
@@ -113,8 +180,11 @@ pub(crate) const RECORDS: OptionText = OptionText {
     name: "records",
     value: "WORD",
     heading: GENERAL,
-    takes: "yes or no",
-    help: "Prints records, yes or no; without them final values alone [default: yes]",
+    takes: Takes::Words {
+        listed: "yes or no",
+        default: "yes",
+    },
+    help: "Prints records, yes or no; without them final values alone",
 };
 
 /// The heading of the options of programs.
@@ -128,7 +198,7 @@ pub(crate) const PROGRAM: OptionText = OptionText {
     name: "program",
     value: "FILE",
     heading: PROGRAMS_HEADING,
-    takes: "the place of --model",
+    takes: Takes::Other("the place of --model"),
     help: "Executable whose handlers are simulated, in the place of --model",
 };
 
@@ -137,7 +207,7 @@ pub(crate) const SET: OptionText = OptionText {
     name: "set",
     value: "NAME=VALUE",
     heading: PROGRAMS_HEADING,
-    takes: "NAME=VALUE with a number from 0 to 18446744073709551615",
+    takes: Takes::Other("NAME=VALUE with a number from 0 to 18446744073709551615"),
     help: "Sets a global object to a number, any number of times",
 };
 
@@ -146,7 +216,7 @@ pub(crate) const DATA: OptionText = OptionText {
     name: "data",
     value: "FILE",
     heading: PROGRAMS_HEADING,
-    takes: "a file",
+    takes: Takes::Other("a file"),
     help: "File whose bytes the program may read",
 };
 
@@ -155,8 +225,8 @@ pub(crate) const FUEL: OptionText = OptionText {
     name: "fuel",
     value: "N",
     heading: PROGRAMS_HEADING,
-    takes: "1 to 4294967296",
-    help: "Most instructions of a handler, 1 to 4294967296 [default: 1000000]",
+    takes: Takes::Number(limits::FUEL),
+    help: "Most instructions of a handler",
 };
 
 /// The options of programs.

@@ -6,6 +6,7 @@ use Rattle.vt_options.specs.declared.line.LineOption.{LineOption}
 use Rattle.vt_options.specs.declared.line.Uses.{Uses}
 use Rattle.vt_options.specs.declared.line.Uses.TheVariants.{Flag}
 use Rattle.vt_options.specs.declared.texts.OptionText.{OptionText}
+use Rattle.vt_options.specs.inside.Texts.{help_of}
 use Rattle.vt_options.specs.promise.Line.{UsedOption}
 
 -- the names of options, but for flags
@@ -21,9 +22,9 @@ valued_names (o ∷ options) = name_before o.uses o.name (valued_names options)
 abbrev pub names_of : List OptionText → List Text
 names_of options = map (λ o. o.name.now) options
 
--- what help says of options
+-- what help shows of options
 abbrev pub helps_of : List LineOption → List Text
-helps_of options = map (λ o. o.text.help.now) options
+helps_of options = map (λ o. help_of o.text) options
 
 -- options as the parser takes them
 abbrev pub option_of : LineOption → UsedOption

@@ -40,8 +40,8 @@ returns-in_err-value-clause-good c = if_refused _ _ c.from_residual.result c.fro
 pub returns-clause-err : goal.returns-clause-err
 returns-clause-err c = tt
 
-pub small_option-requires : goal.small_option-requires
-small_option-requires c = all_at has_default c.args.table.now c.loop-own.own-index _ c.loop-own-test.true c.requires
+pub own_option-requires : goal.own_option-requires
+own_option-requires c = all_at has_default c.args.table.now c.loop-own.own-index _ c.loop-own-test.true c.requires
 
 -- at the end the whole table was read
 all_read : (c : goal.After-loop-own) → take c.loop-own.own-index c.args.table.now ≡ c.args.table.now
