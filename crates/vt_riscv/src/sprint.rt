@@ -263,7 +263,8 @@ impl<const N: usize> Machine<N> {
     }
 
     /// Makes steps up to a call, up to an instruction that has to be looked at more closely, or until few are left.
-    #[inline(always)]
+    // It stands apart, since it alone calls `exec_ready`: with two callers that would stay a call for each step.
+    #[inline(never)]
     pub(crate) fn sprint(&mut self, code: &Code, fuel: u64) -> Sprint
         ensures run { run_of code.now fuel self.old ≡ rest_of code.now self.new result.left result.called }
         ensures left { result.left ≤ fuel }
