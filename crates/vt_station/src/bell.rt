@@ -1,6 +1,7 @@
 //! How workers wait: a bell for each, and what they count together.
 //!
-//! The bells stand apart from the inboxes, since no call of a place waits.
+//! The bells stand apart from the inboxes, since no call of a place waits. `bench/rounds` counts by edits of this file: after a
+//! change here `bench/rounds --check` has to pass.
 //!
 //! A worker looks at its bell before it sleeps, and doesn't yield its processor meanwhile: beside other programs a worker
 //! that yields waits for a whole time slice, and the round waits with it.

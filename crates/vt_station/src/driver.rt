@@ -1,4 +1,6 @@
 //! The turns of a worker.
+//!
+//! `bench/rounds` counts by edits of this file: after a change here `bench/rounds --check` has to pass.
 
 ghost use Rattle.std.specs.Prelude.{◌≡◌, Err, IfErr, IfSome, MatchResult};
 ghost use Rattle.vt_key.specs.declared.fault.Fault.TheVariants.{NotLawful};
@@ -312,7 +314,7 @@ impl<'a, M: EventModel> Driver<'a, M> {
         Ok(())
     }
 
-    /// Hands in if the floor has risen since the last hand-in; else the book has all that there is. Returns whether it was done.
+    /// Hands in if the floor has risen since the last hand-in; otherwise there is nothing to hand in. Returns whether it was done.
     fn commit_risen(&mut self) -> Result<bool, Fault>
         ensures part { IsPartOfTurn self.old self.new result }
     {
@@ -373,7 +375,7 @@ impl<'a, M: EventModel> Driver<'a, M> {
         Ok(())
     }
 
-    /// Notes how many letters were made and how many taken back since this was noted last, and how many events were undone.
+    /// Notes how many letters were made, how many were taken back and how many events were undone, since the last note.
     fn note_counts(&mut self)
         ensures same { self.new ≡ self.old }
     {
@@ -414,7 +416,7 @@ impl<'a, M: EventModel> Driver<'a, M> {
         Ok(())
     }
 
-    /// Tells what watches the run what was done since it was last told.
+    /// Tells the watch of the run what was done since it was last told. That is at a hand-in and at the end, so that an event costs no call.
     pub(crate) fn tell<W: Watch>(&mut self, watch: &W)
         ensures same { self.new ≡ self.old }
     {

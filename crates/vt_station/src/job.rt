@@ -1,4 +1,6 @@
 //! The work of one worker, in one piece or in several.
+//!
+//! `bench/rounds` counts by edits of this file: after a change here `bench/rounds --check` has to pass.
 
 ghost use Rattle.std.specs.Prelude.{◌≡◌, ◌<◌, ◌⊎◌, [], None, Some, Ok, Err, length, IfOk, IfErr, IfSome, ◌*◌, ◌+◌};
 ghost use Rattle.vt_key.specs.promise.Times.{Time as TimeValue};
@@ -100,7 +102,9 @@ fn open<M: EventModel>(
     Ok(engine)
 }
 
-/// The worker at its post, with its kernel. If it has none, its post as it was, and the fault if memory for one was refused.
+/// The worker at its post, with its kernel, which is made if it hasn't begun. A worker that has left has none.
+///
+/// An error gives the post back as it was, and the fault if memory for the kernel was refused.
 fn begin<'a, M: EventModel>(
     alloc: Global,
     station: &'a Station<M>,
@@ -239,7 +243,7 @@ impl<'a, M: EventModel> Job<'a, M> {
             Some(Post::Begun(driver)) => driver.hand_out(from, records),
             Some(Post::Left(place)) => self.station.hand_out(place, from, records),
             Some(Post::New(_)) => hand_out_none(self.config, from, records),
-            // The worker always stands somewhere.
+            // The worker always stands somewhere. `unreachable!()` would take the names of its fields from the proofs of all arms.
             None => Err(Fault::NotLawful),
         }
     }
@@ -255,13 +259,13 @@ impl<'a, M: EventModel> Job<'a, M> {
     }
 
     /// The final value of the worker's process at this index, if it is made.
-    pub(crate) fn final_at(&self, place: usize) -> Option<u64>
-        ensures { IfSome result (λ value. value ≡ final_value (simulation_of (M.handlers self.now.model) self.now.config) (place * self.now.config.workers + self.now.worker)) }
+    pub(crate) fn final_at(&self, index: usize) -> Option<u64>
+        ensures { IfSome result (λ value. value ≡ final_value (simulation_of (M.handlers self.now.model) self.now.config) (index * self.now.config.workers + self.now.worker)) }
     {
         let Some(finals) = &self.finals else {
             return None;
         };
-        let Some(value) = finals.get(place) else {
+        let Some(value) = finals.get(index) else {
             return None;
         };
         Some(*value)

@@ -1,4 +1,6 @@
 //! The running of workers on threads: each at a place of one station, which `vt_places` makes.
+//!
+//! Only the loops of the workers wait for each other. No call of a station does.
 #![tactic(auto)]
 
 mod bell;

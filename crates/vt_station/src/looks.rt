@@ -3,8 +3,8 @@
 //! A worker that sleeps has to be woken, and then rings late itself. Where that takes longer than the others look, they sleep too, and so
 //! on in every round, though each processor is free: such a run takes ten times as long and more. So a worker begins *patient*: it looks
 //! longer than a round takes in which all have to be woken. On a busy machine patience takes processors from those that it waits for. So
-//! where it wasn't enough the worker is impatient until it has slept some times: twice as many after each time that it wasn't, and half as many
-//! after some waits in which it was.
+//! where patience wasn't enough the worker is impatient for a number of sleeps. That number doubles each time that patience wasn't enough, and
+//! is halved after some waits in a row in which it was.
 //!
 //! `bench/parallel --set dense --late 1` measures it where woken workers begin late, `--loops 4` on a busy machine.
 
@@ -23,7 +23,7 @@ const FEW_SLEEPS: u32 = 8;
 /// The most sleeps after which an impatient worker is patient again.
 const MANY_SLEEPS: u32 = 4_096;
 
-/// After so many waits in a row in which patience was enough, half as many sleeps do.
+/// After so many waits in a row in which patience was enough, half as many sleeps make an impatient worker patient again.
 const CALM: u32 = 16;
 
 /// How often a worker looks at its bell before it sleeps.
@@ -40,7 +40,7 @@ pub(crate) struct Looks {
 }
 
 impl Looks {
-    /// Those of a worker that begins.
+    /// The looks of a worker that begins.
     pub(crate) fn new() -> Looks {
         Looks {
             is_patient: true,
@@ -51,12 +51,12 @@ impl Looks {
         }
     }
 
-    /// How many they are.
+    /// How often the worker looks at its next wait.
     pub(crate) fn count(&self) -> u32 {
         if self.is_patient { PATIENT } else { self.count }
     }
 
-    /// Adapts them to a wait that is over.
+    /// Adapts the looks to a wait that is over, in which the worker has slept or not.
     pub(crate) fn adapt(&mut self, slept: bool) {
         match (self.is_patient, slept) {
             (true, true) => self.lose_patience(),

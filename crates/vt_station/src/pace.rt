@@ -9,11 +9,12 @@
 //! rounds go on where one worker is behind, and the others would execute far ahead in vain. In a calm one it has to count,
 //! since one tick of a large model may have more events than the patience allows. A worker alone is never held.
 //!
-//! The most events of a turn are a part of what a turn is. The other numbers may be tuned.
+//! The most events of a turn stay as they are: what [`run_workers`](crate::run_workers) promises of a turn names them. The other numbers may
+//! be tuned.
 
 ghost use Rattle.std.specs.Prelude.{◌≡◌, ◌<◌, ◌≤◌, suc, IsTrue, IsFalse};
 
-/// The most events that a worker executes in one turn.
+/// The most events that a worker executes in one turn. It isn't tuned: a turn is said to be sixteen events at most.
 const MOST_EXECUTIONS: u32 = 16;
 
 /// The patience of all workers together while little is undone. A worker's share of it is the number of turns in which it executes

@@ -38,7 +38,7 @@ pub enum Standing {
 
 /// All workers of a run in pieces, which stand at their places between one piece and the next.
 ///
-/// The type guarantees that the run stands as the work of its workers has ended.
+/// The type guarantees that what it says of the run's standing follows from how the work of its workers has ended.
 #[derive(Drop)]
 pub struct Crew<'a, M: EventModel> {
     jobs: Vec<Job<'a, M>>,
