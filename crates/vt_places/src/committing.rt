@@ -43,6 +43,7 @@ impl<M: EventModel> Station<M> {
         ensures alone { RefusesAlone (M.handlers (station_model self.now)) (station_config self.now) (place_view place.old) kernel.old (step.Commit (place_worker place.old)) result }
         ensures ready { Reaches (M.handlers (station_model self.now)) (station_config self.now) (place_view place.new) kernel.new }
     {
+        // Other workers wait for the book. So rows are made before it is claimed, and events are forgotten after it is given back.
         let batch = kernel.batch(alloc);
         let worker = place.worker;
         let seat = &mut place.seat;
@@ -230,7 +231,7 @@ impl<M: EventModel> Station<M> {
         Ok(book.into_records())
     }
 
-    /// The same records, taken out of the book and not copied, with the end of the station. It takes no memory.
+    /// The records that the book shows, taken out of it and not copied. The station ends. It takes no memory.
     ///
     /// [`Fault::Busy`]: another place had claimed the book, or some of its records were handed out.
     pub fn into_records(self, alloc: Global, place: Place<M::Payload>) -> Result<Vec<Record>, Fault>

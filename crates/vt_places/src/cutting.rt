@@ -19,7 +19,7 @@ use vt_key::Fault;
 use vt_model::Model as EventModel;
 use vt_steps::{Reply, Step};
 
-/// What a report was answered, as the answer of a step.
+/// The answer to a report, as the answer to a step.
 fn answer_of(answer: &Result<Report, Fault>) -> Result<Reply, Fault>
     ensures { result ≡ answer_as reply_of answer.now }
 {

@@ -9,6 +9,8 @@ use crate::view::View;
 use atomic_table::Seat;
 
 /// The place of one worker at a station, by which its thread acts there. It may go to another thread.
+///
+/// A call of the station works on one loan of the seat from its claim to its release: in between the place holds a cell, and `rests` is false.
 #[derive(Drop)]
 pub struct Place<P> {
     pub(crate) seat: Seat<Slot<P>, View<P>>,

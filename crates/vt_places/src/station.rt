@@ -45,6 +45,9 @@ pub(crate) type Seat<M> = atomic_table::Seat<
 >;
 
 /// A Time Warp world that threads share: an inbox for each worker, the board and the book, each in a cell of one table.
+///
+/// No call of a place waits. Each tries once to claim the cell that it needs, and gives it back before it returns, but for
+/// [`Station::take_out`].
 #[derive(Drop)]
 pub struct Station<M: EventModel> {
     pub(crate) table: Table<Slot<M::Payload>, View<M::Payload>, About<M>, Law<M>, Global>,
@@ -162,7 +165,7 @@ impl<M: EventModel> Station<M> {
 }
 
 impl<M: EventModel> Station<M> {
-    /// Tries once to claim a cell.
+    /// Tries once to claim a cell. The place must hold none yet: a worker that holds a cell does its step there and gives the cell back.
     pub(crate) fn claim(&self, seat: &mut Seat<M>, cell: usize) -> bool
         requires table { seat.old.table_id ≡ self.now.table.shared.table_id }
         requires near { cell < cell_count self.now.workers }

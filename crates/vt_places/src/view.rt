@@ -19,7 +19,7 @@ pub(crate) struct View<P> {
     pub(crate) ghost mine: { List Made },
     // The list of all steps of all workers, up to the last step of this one.
     pub(crate) ghost log: { List Marked },
-    // A floor that the book had when this place looked: the book's is no earlier.
+    // A floor that the book had when this place looked. The book's floor is no earlier now.
     pub(crate) ghost seen: { Time },
     // The cell that the place has claimed, and what the cell held then.
     pub(crate) ghost hand: { Hand P },
