@@ -1,4 +1,4 @@
-//! What of mail that arrives comes to a pool.
+//! How mail that has arrived comes into a pool.
 
 ghost use Rattle.std.specs.Prelude.{◌≡◌, [], true, map, IfOk, IfErr};
 ghost use Rattle.vt_key.specs.declared.fault.Fault.TheVariants.{Memory};

@@ -1,4 +1,4 @@
-//! What of a pool is committed, and the final values of its processes.
+//! How past events of a pool are committed, and the final values of its processes.
 
 ghost use Rattle.std.specs.Prelude.{◌≡◌, IfOk, IfErr};
 ghost use Rattle.vt_key.specs.declared.fault.Fault.TheVariants.{Memory};

@@ -16,8 +16,8 @@ use vt_list::Parcel;
 use vt_model::Model as EventModel;
 
 impl<M: EventModel> Pool<M> {
-    /// Takes the letters of the outbox for the worker's own processes home, one after the other. Where a letter of the stamp of the first one
-    /// is held, as only letters that no worker made can have it be, the rest stays.
+    /// Takes the letters of the outbox for the worker's own processes home, one after the other. It stops at a letter if one of the same sign
+    /// and stamp is held already, which never is so of a letter that a worker made.
     #[cold]
     #[inline(never)]
     pub fn home_all(&mut self, model: &M)

@@ -52,7 +52,7 @@ impl<P: Copy> Kept<P> {
         }
     }
 
-    /// Takes memory for some nodes more than that, so that it is seldom called.
+    /// Takes memory for so many nodes and some more, so that it is seldom called.
     #[cold]
     #[inline(never)]
     fn grow(&mut self, count: usize, any: &Letter<P>) -> Result<(), Fault>
@@ -91,7 +91,7 @@ impl<P: Copy> Kept<P> {
         self.nodes.push_all(letters);
     }
 
-    /// The letters of this mail, in their order. So many nodes stay.
+    /// The letters of this mail, in their order. At least `stay` nodes are left, which must be there.
     ///
     /// [`Fault::Memory`]: memory was refused.
     pub(crate) fn letters_of(

@@ -1,4 +1,4 @@
-//! What of a pool leaves its worker.
+//! How letters of a pool leave for other workers.
 
 ghost use Rattle.std.specs.Prelude.{◌≡◌, ℕ, ◌<◌, ◌≤◌, ◌⊎◌, ◌++◌, ◌%◌, ◌^◌, true, false, not, length, map, filter, IfOk, IfErr, IfSome, IfNone};
 ghost use Rattle.vt_key.specs.promise.Times.{earlier};

@@ -75,7 +75,7 @@ fn open<M: EventModel>(alloc: Global, model: &M, config: Config, w: u32) -> Resu
     })
 }
 
-/// What notes of each worker the greatest serial that was ever pending, a log of so many processes, and a calendar, all without anything in them.
+/// Empty stores: for each worker the greatest serial that was heard of it, a log of so many processes, and a calendar.
 // It is apart from `open`, so that few values are there at each refusal.
 fn stores<P: Copy, K: Copy>(
     alloc: Global,

@@ -16,7 +16,7 @@ use vt_outbox::Outbox;
 /// The processes of a worker: where each stands, one calendar of their pending letters, the anti-messages that wait, one log of their past
 /// events, and the outbox of the worker.
 ///
-/// Contracts see these (`HeldPool`). What a call does is a list of steps of the worker (`PoolLeadsTo`), whatever else that has.
+/// Contracts see these (`HeldPool`). What a call does is a list of steps of the worker (`PoolLeadsTo`), whatever else the worker has.
 #[derive(Drop)]
 pub struct Pool<M: EventModel> {
     pub(crate) config: Config,
@@ -29,7 +29,7 @@ pub struct Pool<M: EventModel> {
     pub(crate) reached: When,
     // Nodes for what is sent and what arrives, and for the undo of each past event.
     pub(crate) kept: Kept<M::Payload>,
-    // Of each worker the greatest serial of the messages by it that were ever pending here; 0 if none was.
+    // For each worker the greatest serial of its messages that were ever pending here; 0 if none was.
     pub(crate) heard: Vec<u64>,
     pub(crate) outbox: Outbox<M::Payload>,
     pub(crate) serial: u64,

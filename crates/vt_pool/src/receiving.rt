@@ -17,8 +17,8 @@ use vt_list::Parcel;
 use vt_model::Model as EventModel;
 
 impl<M: EventModel> Pool<M> {
-    /// Takes a letter that may come to its process. What isn't before it there is undone. If its opposite is there, both annihilate each
-    /// other.
+    /// Takes a letter, which may come, to its process. Events of that process that aren't before the letter are undone. If its opposite is
+    /// there, both annihilate each other.
     pub fn receive(&mut self, model: &M, letter: Parcel<Letter<M::Payload>>)
         requires may { MayCome self.old letter }
         requires settled { AreSettled self.old.stock }
@@ -35,7 +35,8 @@ impl<M: EventModel> Pool<M> {
 }
 
 impl<M: EventModel> Pool<M> {
-    /// Takes a message that isn't held to its process. What isn't before it there is undone. An anti-message that waits for it annihilates it.
+    /// Takes a message, which isn't held, to its process. Events of that process that aren't before it are undone. An anti-message that waits
+    /// for it annihilates it.
     fn receive_message(&mut self, model: &M, letter: Parcel<Letter<M::Payload>>)
         requires mine { IsWorkersLetter self.old.config self.old.worker Plus letter }
         requires new { AllByRecursion (λ (l : LetterValue M.Payload). (letter_rank letter).stamp ≡ (letter_rank l).stamp → ⊥) self.old.stock.pending }
@@ -58,7 +59,8 @@ impl<M: EventModel> Pool<M> {
         self.cancel(&rank, dest);
     }
 
-    /// Takes an anti-message that isn't held to its process. What isn't before it there is undone. It annihilates its message, if that is pending.
+    /// Takes an anti-message, which isn't held, to its process. Events of that process that aren't before it are undone. It annihilates its
+    /// message, if that is pending.
     fn receive_anti_message(&mut self, model: &M, letter: Parcel<Letter<M::Payload>>)
         requires mine { IsWorkersLetter self.old.config self.old.worker Minus letter }
         requires new { AllByRecursion (λ (l : LetterValue M.Payload). (letter_rank letter).stamp ≡ (letter_rank l).stamp → ⊥) self.old.stock.waiting }

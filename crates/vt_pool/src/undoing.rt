@@ -67,7 +67,7 @@ impl<M: EventModel> Pool<M> {
         }
     }
 
-    /// Undoes the events of the process at `index` that aren't before a letter. That is pending, or it is one of those that wait.
+    /// Undoes the events of the process at `index` that aren't before this rank. A pending letter or one of `waits` has it.
     pub(crate) fn undo_from(&mut self, model: &M, index: u32, rank: &Rank)
         ghost waits: { Items (LetterValue M.Payload) }
         requires forced { (letter : LetterValue M.Payload) × (Among letter self.old.stock.pending ⊎ Among letter waits) × (letter_rank letter ≡ rank.now) × (letter.event.dest ≡ number_at self.old.config self.old.worker index) }
