@@ -23,7 +23,7 @@ use vt_model::{Record, Row, Sent};
 #[derive(Drop)]
 pub struct Log<P: Copy, K: Copy> {
     shelf: Shelf<P, K>,
-    // Where the last entry of each process lies; anywhere else for a process without entries.
+    // Where the last entry of each process lies. For a process without entries it is a position where no entry of it lies.
     lasts: Vec<Position>,
 }
 

@@ -15,13 +15,13 @@ use std::marker::Model;
 use vt_key::{Fault, Key, Stamp, When};
 use vt_model::{MAX_RECORDS, MAX_SENDS, Record, Row, Sent};
 
-/// A sheet with as many entries takes no event of another time.
+/// A sheet with so many entries takes a further one only where all have the same time.
 const FEW: usize = 32;
 
-/// A sheet has as many entries at most.
+/// The most entries of a sheet.
 const MOST: usize = 65_536;
 
-/// A sheet has as many sends at most before its last entry, and as many records, so that their indexes are short.
+/// A sheet with so many sends, or so many records, takes no further entry. So their indexes have 32 bits.
 const MOST_PARTS: usize = 4_000_000_000;
 
 /// Entries, what they sent, and what they recorded.
@@ -192,7 +192,7 @@ impl<P: Copy, K: Copy> Sheet<P, K> {
         )
     }
 
-    /// Takes the entry at an index out. It is gone then, and the entries that are gone at the sheet's end leave their places.
+    /// Takes the entry at an index out: it is gone then. Entries that are gone at the sheet's end are dropped.
     pub(crate) fn take_out(&mut self, index: usize)
         ensures { self.new ≡ record { live = filter (is_elsewhere index) self.old.live; has_room = false } }
     {

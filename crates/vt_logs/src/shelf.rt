@@ -16,7 +16,7 @@ use std::marker::Model;
 use vt_key::{Fault, Stamp, When};
 use vt_model::{Record, Row, Sent};
 
-/// The undo of all entries takes as many nodes at most before one more is written.
+/// The most nodes that the undo of all entries may take when one more is written.
 const MOST_NODES: usize = 0x4000_0000_0000_0000;
 
 /// Sheets of entries. The last one that was begun is written.
@@ -136,7 +136,7 @@ impl<P: Copy, K: Copy> Shelf<P, K> {
         if number >= u32::MAX as usize {
             return Err(Fault::Memory);
         }
-        // So that a sheet that is forgotten finds room among the spare ones.
+        // A sheet whose entries are forgotten has to find room among the spare ones.
         let Ok(()) = self.spare.reserve(number + 1) else {
             return Err(Fault::Memory);
         };

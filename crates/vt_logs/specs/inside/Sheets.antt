@@ -50,7 +50,7 @@ pub record PassesAlone {X : Type 0} (test : X → Bool) (x : X) (xs : List X) : 
 abbrev pub range_of : {X : Type 0} → ℕ → ℕ → List X → List X
 range_of first count xs = take count (drop first xs)
 
--- ranges of these first places and lengths lie one after the other, from a place to a place
+-- ranges of these first indexes and lengths lie one after the other, from an index to an index
 module _ {X : Type 0} (first count : X → ℕ) where
   abbrev pub AreLaid : ℕ → List X → ℕ → Type 0
   AreLaid from [] to = from ≡ to
