@@ -21,6 +21,8 @@ use vt_pending::Pending;
 /// Contracts see these (`HeldProcess`). The value keeps no committed events. So a contract speaks of every process of
 /// a world that the value stands for (`StandsFor`). Such a process has the same past events, pending messages and
 /// waiting anti-messages, and its committed events lead to where the past begins.
+///
+/// It keeps no model: each call is handed one. A reference in each of many processes would take memory, and time to read.
 #[derive(Drop)]
 pub struct Lp<M: EventModel> {
     // First, since it holds many random words. So the fields that every event reads stand together behind it, in few cache
@@ -119,7 +121,7 @@ impl<M: EventModel> Lp<M> {
         ensures rank { result ≡ ready_rank self.now.pending self.now.past }
         ensures rising { IsRising self.now.pending × IsRising self.now.waiting × IsRisingPast self.now.past }
     {
-        // Tells the clause that anti-messages rise, and reads nothing.
+        // For the proof alone: the call's contract says that anti-messages rise.
         let _least = self.waiting.least();
         let least = self.pending.least()?;
         if !ends_before(&self.past, least.event.rank) {
