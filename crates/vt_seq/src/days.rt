@@ -25,7 +25,7 @@ pub(crate) struct Days<P: Copy> {
     days: Vec<Vec<Entry<P>>>,
     marks: Marks,
     spare: Vec<Vec<Entry<P>>>,
-    /// No day has an event, as far as a look at the marks would find.
+    /// Whether it is known that no day has an event, so that nobody has to look at the marks.
     is_clear: bool,
 }
 

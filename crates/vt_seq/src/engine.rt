@@ -82,7 +82,7 @@ impl<'m, M: EventModel> Engine<'m, M> {
         Some(process.stream.place())
     }
 
-    /// Executes the pending event of least key with this `out`, and puts its records behind these; false where none is
+    /// Executes the pending event of least key with this `out`, and puts its records behind `records`; false where none is
     /// pending, which changes nothing.
     ///
     /// [`Fault::Exhausted`]: the process's send number would pass 2^63. [`Fault::Memory`]: it would not, and memory was

@@ -82,6 +82,7 @@ impl<P: Copy> PendingEvents<P> {
         let Ok(()) = self.far.reserve(sends.len()) else {
             return Err(Fault::Memory);
         };
+        // The top leaves the heap before the sends enter it: to replace it in place would compare twice at each level.
         remove_first(&mut self.calendar, &mut self.far);
         put_all(&mut self.calendar, &mut self.far, sends);
         Ok(())
