@@ -45,7 +45,8 @@ static OPTIONS: [OwnOption; 4] = [
     },
 ];
 
-/// Where standard error is a terminal, a long run shows there how far it is, and a refused command line what is allowed.
+/// Standard error may be a terminal. Then a long run shows there how far it is. A refused command line gets a second line that says what is
+/// allowed, and so does a run whose turns were too few.
 fn main(rt: HostRuntime) -> ExitCode {
     let terminal = Terminal::new(&rt, rt.stderr());
     let mut streams = Streams {

@@ -69,10 +69,10 @@ pub enum Difference {
     /// The event was undone and executed again, and gave something else than in the same state before.
     #[error("{0}: executed again after an undo, the event gives {1}")]
     Again(Moment, Part),
-    /// It sends an event to a process that there isn't, of so many.
+    /// It sends an event to a process that there isn't. The numbers are that process and the last process of the run.
     #[error("{0}: it sends to process {1}, and the last process is {2}")]
     Receiver(Moment, u32, u32),
-    /// It sends an event that isn't received later than now.
+    /// It sends an event that isn't received later than now. The numbers are the receiver, the tick and the priority of the receipt.
     #[error("{0}: it sends to process {1} for tick {2}, priority {3}, which isn't later")]
     Early(Moment, u32, u64, u8),
     /// The look itself was refused something: memory, or a send number above 2^63.

@@ -74,7 +74,7 @@ where
         let Some(pair) = self.pairs.get_mut(event.dest as usize) else {
             return Ok(true);
         };
-        // No event is so: each send was tested, and `out` holds none at the end of the run or later.
+        // This never comes: each send was tested, and `out` holds none at the end of the run or later.
         if event.dest >= self.config.lps || now.ticks() >= self.config.end().ticks() {
             return Ok(true);
         }

@@ -90,8 +90,8 @@ where
         }
     }
 
-    /// Executes an event at both, undoes it at one in between, and compares them: that one's state after the undo is the other's before
-    /// the event.
+    /// Executes an event at one, undoes it there, executes it at both, and compares the two. The state after the undo has to be that before
+    /// the event, which the other one still has.
     pub(crate) fn look_at(
         &mut self,
         model: &M,

@@ -7,7 +7,8 @@ use crate::search::{Search, TRAP, TURNS_SPENT};
 use std::io::{self, Write};
 
 /// A writer that may write to the terminal on which a meter shows its line: before it does, the line is taken away. What was
-/// written to it is what its own writer took. Where the meter is shown, traps are counted in that, and it is told of spent turns.
+/// written to it is what its own writer took. If the meter is shown, it is told how many traps these bytes record, and whether they say that
+/// turns were spent.
 #[derive(Drop)]
 pub struct Clearing<'m, W, E> {
     meter: &'m Meter,

@@ -9,7 +9,7 @@ pub struct Reading {
     pub end: u64,
     /// The announced time: the tick before which no event is undone any more, or in one thread the tick of the next event.
     pub tick: u64,
-    /// Whether it is run on workers.
+    /// Whether the run is one on workers.
     pub on_workers: bool,
     /// How many events were executed.
     pub executed: u64,

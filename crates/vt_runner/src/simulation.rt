@@ -94,7 +94,7 @@ where
     }
 }
 
-/// The fault that a run is told by whose records couldn't be read for this refusal.
+/// The fault of a run whose records couldn't be read: the one that ended the run, else this refusal of the records.
 fn fault_unread(standing: Standing, refusal: Fault) -> Fault
     ensures { IsUnread standing refusal result }
 {
@@ -173,7 +173,7 @@ where
     Err(Fault::TurnsSpent)
 }
 
-/// Settings with no more workers than processes: any others would have none, and the run is the same.
+/// Settings with no more workers than processes. Workers beyond that would have no process, so the run is the same.
 fn with_own_processes(options: &RunSettings) -> RunSettings
     ensures shown { (result.records ≡ options.now.records) × (result.finals ≡ options.now.finals) }
     ensures run { (result.config.lps ≡ options.now.config.lps) × (result.config.end ≡ options.now.config.end) × (result.config.seed ≡ options.now.config.seed) }

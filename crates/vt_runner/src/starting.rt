@@ -29,8 +29,8 @@ fn starts<R: Threads + Wait + Sync>(rt: &R, count: u32) -> bool {
     })
 }
 
-/// Tests whether the machine starts so many threads at a time, so that a run is refused at once where it doesn't: what begins its threads
-/// isn't told of it.
+/// Tests whether the machine starts so many threads at a time, so that a run is refused at once where it doesn't. The call that begins the
+/// threads of a run doesn't say whether they were started.
 ///
 /// [`Fault::Memory`]: it doesn't.
 pub(crate) fn test_threads<R: Threads + Wait + Sync>(rt: &R, count: u32) -> Result<(), Fault>

@@ -115,7 +115,7 @@ fn option_at<'a>(choices: &[FileChoice<'a>], index: usize) -> &'a str
     }
 }
 
-/// What a model is refused for that isn't made.
+/// Why a task is refused whose model can't be made.
 fn refused_by<'a>(choices: &[FileChoice<'a>], unmade: Unmade) -> Refused<'a>
     ensures { IsSaidBy choices.now unmade result }
 {
@@ -245,7 +245,7 @@ fn line_of(alloc: Global, name: &str, option: &str, shown: &str) -> Option<Strin
     format!(in alloc; "{name}: refused 7 bad option {option}: {shown}\n").ok()
 }
 
-/// The same, of a text that is shown as a terminal is shown a sentence.
+/// The same, by what was said of the option, which is shown as [`shown_sentence`] shows it.
 fn why_line(alloc: Global, name: &str, option: &str, said: &str) -> Option<String>
     ensures { IfSome result (λ line. (shown : Text) × IsShownSentence said.now shown × (string_bytes line ≡ why_line name.now option.now shown)) }
 {
