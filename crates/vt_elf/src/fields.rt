@@ -3,7 +3,7 @@
 ghost use Rattle.std.specs.Prelude.{◌≡◌, ◌+◌, ◌≤◌, length, nat_le};
 ghost use Rattle.vt_elf.specs.promise.Fields.{half_at, word_at, double_at};
 
-/// The number of two bytes at a place, the low byte first.
+/// The number of two bytes at an offset, the low byte first.
 #[tactic(auto, unfolding(crate::specs::promise::Fields::half_at))]
 pub(crate) fn half_at(bytes: &[u8], at: usize) -> u16
     requires { at + 2 ≤ length bytes.now }
@@ -12,7 +12,7 @@ pub(crate) fn half_at(bytes: &[u8], at: usize) -> u16
     u16::from_le_bytes([bytes[at], bytes[at + 1]])
 }
 
-/// The number of four bytes at a place, the low byte first.
+/// The number of four bytes at an offset, the low byte first.
 #[tactic(auto, unfolding(crate::specs::promise::Fields::word_at))]
 pub(crate) fn word_at(bytes: &[u8], at: usize) -> u32
     requires { at + 4 ≤ length bytes.now }
@@ -21,7 +21,7 @@ pub(crate) fn word_at(bytes: &[u8], at: usize) -> u32
     u32::from_le_bytes([bytes[at], bytes[at + 1], bytes[at + 2], bytes[at + 3]])
 }
 
-/// The number of eight bytes at a place, the low byte first.
+/// The number of eight bytes at an offset, the low byte first.
 #[tactic(auto, unfolding(crate::specs::promise::Fields::double_at))]
 pub(crate) fn double_at(bytes: &[u8], at: usize) -> u64
     requires { at + 8 ≤ length bytes.now }

@@ -156,7 +156,7 @@ impl Segment {
     }
 }
 
-/// Whether the program header at a place is one of a segment that has bytes in memory.
+/// Whether the program header at an offset is one of a segment that has bytes in memory.
 fn is_loaded(bytes: &[u8], at: usize) -> bool
     requires { at + 56 ≤ length bytes.now }
     ensures { result ≡ is_loaded bytes.now at }
@@ -164,7 +164,7 @@ fn is_loaded(bytes: &[u8], at: usize) -> bool
     word_at(bytes, at) == PT_LOAD && double_at(bytes, at + 40) != 0
 }
 
-/// The segment of the program header at a place.
+/// The segment of the program header at an offset.
 fn segment_at(bytes: &[u8], at: usize) -> Segment
     requires { at + 56 ≤ length bytes.now }
     ensures { result ≡ segment_at bytes.now at }

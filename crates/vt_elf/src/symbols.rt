@@ -107,7 +107,7 @@ fn is_of_kind(kind: SymbolKind, symbol_type: u8) -> bool
     }
 }
 
-/// Whether this name, and then a zero byte, stands at a place of the names.
+/// Whether this name, and then a zero byte, stands at an offset in the names.
 fn is_name_at(names: &[u8], start: usize, name: &[u8]) -> bool
     ensures { result ≡ is_name_at names.now start name.now }
 {

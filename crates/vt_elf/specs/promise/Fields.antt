@@ -1,7 +1,7 @@
 -- The fields of an ELF file of 64 bits, little-endian, under the names and at the offsets that the ELF-64 object file format gives them. A file is the list of its bytes.
 use Rattle.std.specs.Prelude.{ℕ, ◌+◌, ◌*◌, ◌^◌, List, slice_index}
 
--- numbers of two, four and eight bytes at a place of the file, the low byte first (Elf64_Half, Elf64_Word, Elf64_Addr, Elf64_Off, Elf64_Xword)
+-- numbers of two, four and eight bytes at an offset in the file, the low byte first (Elf64_Half, Elf64_Word, Elf64_Addr, Elf64_Off, Elf64_Xword)
 unfoldable pub half_at : List ℕ → ℕ → ℕ
 half_at file at = slice_index file at + 2 ^ 8 * slice_index file (at + 1)
 
@@ -42,7 +42,7 @@ e_shentsize file = half_at file 58
 abbrev pub e_shnum : List ℕ → ℕ
 e_shnum file = half_at file 60
 
--- a program header, Elf64_Phdr: 56 bytes each from e_phoff on; here by the place where it begins
+-- a program header, Elf64_Phdr: 56 bytes each from e_phoff on; here by the offset where it begins
 abbrev pub program_header : List ℕ → ℕ → ℕ
 program_header file i = e_phoff file + 56 * i
 
@@ -64,7 +64,7 @@ p_filesz file at = double_at file (at + 32)
 abbrev pub p_memsz : List ℕ → ℕ → ℕ
 p_memsz file at = double_at file (at + 40)
 
--- a section header, Elf64_Shdr: 64 bytes each from e_shoff on; here by the place where it begins
+-- a section header, Elf64_Shdr: 64 bytes each from e_shoff on; here by the offset where it begins
 abbrev pub section_header : List ℕ → ℕ → ℕ
 section_header file i = e_shoff file + 64 * i
 
@@ -83,7 +83,7 @@ sh_link file at = word_at file (at + 40)
 abbrev pub sh_entsize : List ℕ → ℕ → ℕ
 sh_entsize file at = double_at file (at + 56)
 
--- a symbol, Elf64_Sym: 24 bytes each in a symbol table; here by the table and the place in it where the symbol begins
+-- a symbol, Elf64_Sym: 24 bytes each in a symbol table; here by the table and the offset in it where the symbol begins
 abbrev pub st_name : List ℕ → ℕ → ℕ
 st_name table at = word_at table at
 

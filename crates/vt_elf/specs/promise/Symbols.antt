@@ -64,7 +64,7 @@ abbrev pub is_of_kind : SymbolKind → ℕ → Bool
 is_of_kind Function type = nat_eq type 0 || nat_eq type 2
 is_of_kind DataObject type = nat_eq type 1
 
--- a name, and a zero byte, stand at this place of the names
+-- a name, and a zero byte, stand at this offset in the names
 abbrev pub is_name_at : List ℕ → ℕ → List ℕ → Bool
 is_name_at names start name = nat_lt (start + length name) (length names) && starts_with nat_eq (drop start names) name && nat_eq (slice_index names (start + length name)) 0
 
