@@ -80,13 +80,13 @@ impl Predicate<Item> for Above {
     }
 }
 
-/// Two lists, a line, a row of lines and a stack, and how often each item was dropped.
+/// Two lists, a line, several lines in one value, and a stack, and how often each item was dropped.
 #[derive(Drop)]
 struct Shelf {
     list: List<Item>,
     more: List<Item>,
     line: Line<Item>,
-    row: Lines<Item>,
+    lines: Lines<Item>,
     stack: Stack<Item>,
     drops: Rc<Cell<u64>>,
 }
@@ -142,8 +142,8 @@ fn tell_backwards(text: &mut Vec<u8>, list: &List<Item>) -> Result<(), Fail> {
     Ok(())
 }
 
-fn tell_row(text: &mut Vec<u8>, row: &Lines<Item>) -> Result<(), Fail> {
-    for items in row.iter() {
+fn tell_lines(text: &mut Vec<u8>, lines: &Lines<Item>) -> Result<(), Fail> {
+    for items in lines.iter() {
         tell_word(text, ":")?;
         tell_all(text, items)?;
     }
@@ -166,7 +166,7 @@ impl Shelf {
             list: List::new(alloc),
             more: List::new(alloc),
             line: Line::new(alloc),
-            row: Lines::new(alloc),
+            lines: Lines::new(alloc),
             stack: Stack::new(alloc),
             drops: Rc::new(alloc, Cell::new(0u64))?,
         })
@@ -233,7 +233,7 @@ impl Shelf {
             "list.find_back_below" => self.list.find_back(&Below(number)),
             "line.front" => self.line.front(),
             "line.find" => self.line.find(&Is(number)),
-            "row.front" => self.row.front(),
+            "lines.front" => self.lines.front(),
             "stack.top" => self.stack.top(),
             _ => None,
         }
@@ -253,9 +253,9 @@ impl Shelf {
             "stack.to_list" => if let Some(item) = self.stack.pop() {
                 self.list.push_back(item);
             },
-            "line.to_row" => self.line_to_row(alloc),
-            "line.into_row" => self.line_into_row(alloc),
-            "row.to_line" => if let Some(line) = self.row.pop_line() {
+            "line.to_lines" => self.line_to_lines(alloc),
+            "line.into_lines" => self.line_into_lines(alloc),
+            "lines.to_line" => if let Some(line) = self.lines.pop_line() {
                 self.line = line;
             },
             _ => return false,
@@ -263,22 +263,22 @@ impl Shelf {
         true
     }
 
-    fn line_to_row(&mut self, alloc: Global) {
+    fn line_to_lines(&mut self, alloc: Global) {
         let line = mem::replace(&mut self.line, Line::new(alloc));
         if !line.is_empty() {
-            self.row.push_line(line);
+            self.lines.push_line(line);
         }
     }
 
-    /// Puts the line in front of the first one of the row that begins above its first item.
-    fn line_into_row(&mut self, alloc: Global) {
+    /// Puts the line in front of the first one of the lines that begins above its first item.
+    fn line_into_lines(&mut self, alloc: Global) {
         let line = mem::replace(&mut self.line, Line::new(alloc));
         let Some(number) = line.front().map(|item| item.number) else {
             return;
         };
-        let passed = self.row.pass(&Above(number));
-        self.row.push_line(line);
-        self.row.join(passed);
+        let passed = self.lines.pass(&Above(number));
+        self.lines.push_line(line);
+        self.lines.join(passed);
     }
 
     /// Drops all that lies in one of them.
@@ -287,7 +287,7 @@ impl Shelf {
             "list" => self.list = List::new(alloc),
             "more" => self.more = List::new(alloc),
             "line" => self.line = Line::new(alloc),
-            "row" => self.row = Lines::new(alloc),
+            "lines" => self.lines = Lines::new(alloc),
             "stack" => self.stack = Stack::new(alloc),
             _ => return false,
         }
@@ -303,7 +303,7 @@ impl Shelf {
     fn tell_empty(&self, text: &mut Vec<u8>) -> Result<(), Fail> {
         tell_bool(text, self.list.is_empty())?;
         tell_bool(text, self.line.is_empty())?;
-        tell_bool(text, self.row.is_empty())
+        tell_bool(text, self.lines.is_empty())
     }
 
     fn tell_drops(&self, text: &mut Vec<u8>) -> Result<(), Fail> {
@@ -317,7 +317,7 @@ impl Shelf {
             "list" => tell_all(text, self.list.iter()),
             "backwards" => tell_backwards(text, &self.list),
             "line" => tell_all(text, self.line.iter()),
-            "row" => tell_row(text, &self.row),
+            "lines" => tell_lines(text, &self.lines),
             "lens" => self.tell_lens(text),
             "empty" => self.tell_empty(text),
             _ => self.tell_drops(text),
@@ -490,57 +490,57 @@ tell drops = 11100
 forget list
 tell drops = 11111";
 
-/// Lines stand in a row.
-const ROW: &str = "\
-look row.front = none
-carry row.to_line
+/// Lines stand one behind the other.
+const LINES: &str = "\
+look lines.front = none
+carry lines.to_line
 put line.push_front 6
-carry line.to_row
-carry line.to_row
+carry line.to_lines
+carry line.to_lines
 put line.push_front 5
 put line.push_front 4
 put line.push_front 3
-carry line.to_row
+carry line.to_lines
 put line.push_front 2
 put line.push_front 1
-carry line.to_row
-tell row = : 1 2 : 3 4 5 : 6
-look row.front = 1
-carry row.to_line
+carry line.to_lines
+tell lines = : 1 2 : 3 4 5 : 6
+look lines.front = 1
+carry lines.to_line
 tell line = 1 2
-look row.front = 3
+look lines.front = 3
 take line.pop_front = 1
 take line.pop_front = 2
 take line.pop_front = none
 tell empty = true true false
-carry row.to_line
+carry lines.to_line
 tell drops = 110
-forget row
+forget lines
 tell drops = 1000110
 forget line
 tell drops = 1111110";
 
-/// A line goes into a row at its place: in front, between two others, and behind them.
-const INTO_A_ROW: &str = "\
-carry line.into_row
+/// A line goes among the lines by its first item: in front, between two others, and behind them.
+const INTO_LINES: &str = "\
+carry line.into_lines
 put line.push_front 4
-carry line.into_row
-tell row = : 4
+carry line.into_lines
+tell lines = : 4
 put line.push_front 9
 put line.push_front 8
-carry line.into_row
+carry line.into_lines
 put line.push_front 2
 put line.push_front 1
-carry line.into_row
+carry line.into_lines
 put line.push_front 6
-carry line.into_row
-tell row = : 1 2 : 4 : 6 : 8 9
+carry line.into_lines
+tell lines = : 1 2 : 4 : 6 : 8 9
 tell empty = true true false
-carry row.to_line
+carry lines.to_line
 tell line = 1 2
-tell row = : 4 : 6 : 8 9
+tell lines = : 4 : 6 : 8 9
 tell drops = 0
-forget row
+forget lines
 tell drops = 1101010000";
 
 #[test]
@@ -551,8 +551,8 @@ fn lists_lines_and_stacks_do_what_the_texts_say(rt: HostRuntime) -> Result<(), F
         EQUAL_RANK,
         FIRST_THAT_PASSES,
         FROM_LIST_TO_STACK,
-        ROW,
-        INTO_A_ROW,
+        LINES,
+        INTO_LINES,
     ] {
         scenario(&rt, lines)?;
     }
@@ -573,7 +573,7 @@ fn a_refused_node_hands_its_item_back(rt: HostRuntime) {
 
 // So 64 lists that are empty cost what one does.
 #[test]
-fn a_line_and_a_row_of_lines_are_one_word_each(rt: HostRuntime) {
+fn a_line_and_lines_are_one_word_each(rt: HostRuntime) {
     assert!(rt; size_of::<Line<u64>>() == 8 && size_of::<Lines<u64>>() == 8);
 }
 
@@ -586,16 +586,16 @@ fn line_of(alloc: Global, count: u32) -> Result<Line<u32>, Fail> {
     Ok(line)
 }
 
-/// A row of so many lines of ten numbers.
-fn row_of(alloc: Global, count: u32) -> Result<Lines<u32>, Fail> {
-    let mut row = Lines::new(alloc);
+/// So many lines of ten numbers.
+fn lines_of(alloc: Global, count: u32) -> Result<Lines<u32>, Fail> {
+    let mut lines = Lines::new(alloc);
     for _ in 0..count {
         let line = line_of(alloc, 10)?;
         if !line.is_empty() {
-            row.push_line(line);
+            lines.push_line(line);
         }
     }
-    Ok(row)
+    Ok(lines)
 }
 
 /// A list of so many numbers.
@@ -622,8 +622,8 @@ fn a_million_nodes_are_dropped_on_a_small_stack(rt: HostRuntime) -> Result<(), F
     let list = list_of(rt.alloc(), 1_000_000)?;
     let stack = stack_of(rt.alloc(), 1_000_000)?;
     let line = line_of(rt.alloc(), 1_000_000)?;
-    let row = row_of(rt.alloc(), 100_000)?;
+    let lines = lines_of(rt.alloc(), 100_000)?;
     assert!(rt; list.len() == 1_000_000 && stack.len() == 1_000_000);
-    assert!(rt; line.front().copied() == Some(999_999) && row.front().copied() == Some(9));
+    assert!(rt; line.front().copied() == Some(999_999) && lines.front().copied() == Some(9));
     Ok(())
 }

@@ -1,4 +1,4 @@
-//! Random words: published ones, far places, and going back.
+//! Random words: published ones, far positions, and going back.
 
 use crate::tests::told::holds;
 use std::process::Abort;
@@ -26,7 +26,7 @@ const NONCE_BIT: [u32; 17] = [
     0xfbdf0b47,
 ];
 
-// A stream must give these words, and then be at the place behind them.
+// A stream must give these words, and then be at the position behind them.
 fn gives(rt: &impl Abort, seed: u64, lp: u32, words: [u32; 17]) {
     let mut stream = LpStream::new(seed, lp);
     for word in words {
@@ -37,7 +37,7 @@ fn gives(rt: &impl Abort, seed: u64, lp: u32, words: [u32; 17]) {
 
 /// The streams of a seed and a process whose words are published: the key stream of ChaCha with 8 rounds and a 256-bit key
 /// in the test vectors of J. Strömbergson (draft-strombergson-chacha-test-vectors): all zero, one bit of the key set, one
-/// bit of the nonce set. A place in the second block is the last.
+/// bit of the nonce set. The last position is in the second block.
 #[test]
 fn words_are_the_published_ones(rt: HostRuntime) {
     gives(&rt, 0, 0, ZERO);
@@ -45,7 +45,7 @@ fn words_are_the_published_ones(rt: HostRuntime) {
     gives(&rt, 0, 1, NONCE_BIT);
 }
 
-// Whether a stream gives this word at this place, also once it went back.
+// Whether a stream gives this word at this position, also once it went back.
 fn gives_at(seed: u64, lp: u32, place: u64, word: u32) -> bool {
     let mut stream = LpStream::new(seed, lp);
     stream.seek(place);
@@ -70,7 +70,7 @@ fn any_place_can_be_sought(rt: HostRuntime) {
     holds(&rt, edge, "an edge");
 }
 
-/// The place behind the last one is the first. What was drawn before makes no difference at a place that is sought.
+/// The position behind the last one is the first. What was drawn before makes no difference at a position that is sought.
 #[test]
 fn places_go_round(rt: HostRuntime) {
     let mut stream = LpStream::new(258, 1);
