@@ -43,7 +43,8 @@ const MODEL: OptionText = OptionText {
     help: "Model to simulate: hop, phold or stations",
 };
 
-/// The models, `hop` first, with their options.
+/// The models, `hop` first, with their options. An option that is added or changed here stands in `specs/promise/Table.antt`, in `IN_SHORT`
+/// and in `tools/check-calls` too.
 pub(crate) static MODELS: ModelTable<'static> = ModelTable {
     naming: Some(MODEL),
     models: &[

@@ -4,6 +4,8 @@
 //! `clap` reads the words, and its definitions say which text a line gives to each option. [`read_request`] reads the
 //! numbers in these texts, by the options of every model and a [`ModelTable`] of the program's own. It tests the options of all models,
 //! in the order of the table, and names the first that is out of its range.
+//!
+//! No other crate has code that holds a value of `clap`: to prove the drops of these takes most of a first check.
 #![tactic(auto)]
 
 mod asking;

@@ -1,4 +1,4 @@
-//! The numbers that the options of every model take, and those of programs.
+//! The numbers that the options of every model take, and those of programs. `tools/check-calls` has each range and default too.
 
 use vt_key::{MAX_COUNT, MAX_END, MAX_PROCESSES, MAX_WORKERS};
 

@@ -13,7 +13,7 @@ use crate::models::TwarpModel;
 use std::alloc::{AllocError, Global};
 use thiserror::Error;
 use vt_guest::{Guest, Loaded, MAX_DATA, Program, Refusal, Set, load};
-use vt_key::Fault;
+use vt_key::{Fault, MAX_PROCESSES};
 use vt_model::Config;
 use vt_options::{Assignment, ProgramChoice, Unsettled, settled};
 use vt_runner::{Files, ReadFault, bytes_of};
@@ -37,7 +37,7 @@ pub enum ProgramRefusal {
     #[error("{0}")]
     Load(Refusal),
     /// The program fixes a number of processes that there can't be.
-    #[error("it fixes a number of processes that isn't from 1 to 65536")]
+    #[error("it fixes a number of processes that isn't from 1 to {most}", most = MAX_PROCESSES)]
     Processes,
     /// The program fixes this number of processes, and the words give another one.
     #[error("the program fixes {0} processes")]
