@@ -1,6 +1,6 @@
 //! Mail between workers: post and fetch.
 
-ghost use Rattle.std.specs.Prelude.{◌≡◌, false, Err, IfErr, MatchResult};
+ghost use Rattle.std.specs.Prelude.{◌≡◌, ◌<◌, true, false, Err, IfErr, MatchResult};
 ghost use Rattle.vt_key.specs.declared.fault.Fault.TheVariants.{NotLawful};
 ghost use Rattle.vt_steps.specs.declared.step.Step.TheVariants as step;
 ghost use Rattle.vt_steps.specs.declared.step.Reply.TheVariants as reply;
@@ -13,13 +13,21 @@ ghost use Rattle.vt_places.specs.inside.Calls.{Reaches, Visited, Stays, IsPostRe
 
 use crate::place::Place;
 use crate::slot::Slot;
-use crate::station::{HOME, Station, Visit, done_of, word_of_inbox};
+use crate::station::{Station, Visit, done_of, word_of_inbox};
 use std::snapshot::Snapshot;
 use vt_cells::{fetch, send};
 use vt_engine::Engine;
 use vt_key::Fault;
 use vt_model::Model as EventModel;
 use vt_steps::Step;
+
+/// Whether a send of the kernel to worker `v` is lawful: `v` is another worker, and the kernel has a letter for a process of `v`.
+fn is_receiver<M: EventModel, const KIND: u8>(kernel: &Engine<M, KIND>, v: u32) -> bool
+    ensures lawful { result ≡ may_send kernel.now.config.workers kernel.now.worker v kernel.now.outbox }
+    ensures known { result ≡ true → v < kernel.now.config.workers }
+{
+    kernel.receiver_from(v) == Some(v)
+}
 
 impl<M: EventModel> Station<M> {
     /// Sends the kernel's letters for processes of worker `v` to the inbox of `v`.
@@ -29,8 +37,8 @@ impl<M: EventModel> Station<M> {
     ///
     /// [`Fault::NotLawful`]: `v` is this worker, or the kernel has no letter for a process of `v`.
     /// [`Fault::Exhausted`]: the count of mail sent would pass 2^63. [`Fault::Busy`]: another place has claimed the
-    /// inbox. [`Fault::Memory`]: memory was refused. Faults are tested in this order. After each of them the place
-    /// and the kernel are unchanged.
+    /// inbox. [`Fault::Memory`]: memory was refused. Of several faults the first in this order is told. After each of
+    /// them the place and the kernel are unchanged.
     pub fn post<const KIND: u8>(
         &self,
         place: &mut Place<M::Payload>,
@@ -47,10 +55,14 @@ impl<M: EventModel> Station<M> {
         ensures unlawful { (part : Part _) → StandsFor (M.handlers (station_model self.now)) kernel.old part → may_send (station_run M.handlers self.now).workers (place_worker place.old) v part.outbox ≡ false → result ≡ Err NotLawful }
         ensures ready { Reaches (M.handlers (station_model self.now)) (station_config self.now) (place_view place.new) kernel.new }
     {
-        kernel.may_send(v)?;
+        if !is_receiver(kernel, v) {
+            return Err(Fault::NotLawful);
+        }
         let worker = place.worker;
         let seat = &mut place.seat;
         if !self.claim(seat, v as usize) {
+            // A send counts the letters. Here none is made, so they are counted now: Exhausted is told before Busy.
+            kernel.may_send(v)?;
             return Err(Fault::Busy);
         }
         let before = Snapshot::of(kernel);
@@ -65,7 +77,8 @@ impl<M: EventModel> Station<M> {
             before,
             left: Snapshot::of(kernel),
         };
-        self.release_visit(seat, v as usize, HOME, &visit);
+        let word = word_of_inbox(mails);
+        self.release_visit(seat, v as usize, word, &visit);
         answer
     }
 

@@ -1,4 +1,4 @@
-use Rattle.std.proofs.Common.{ℕ, refl, sym, subst, ◌∙◌, Result, arith, rules}
+use Rattle.std.proofs.Common.{◌≡◌, ℕ, ◌<◌, refl, sym, ap, subst, ◌∙◌, Result, arith, rules}
 use Rattle.vt_key.specs.declared.fault.Fault.{Fault}
 use Rattle.vt_model.specs.declared.settings.Config.{Config}
 use Rattle.vt_steps.specs.declared.step.Step.TheVariants.{Send}
@@ -8,31 +8,30 @@ use Rattle.vt_steps.specs.inside.Cells.{in_inbox}
 use Rattle.vt_kernel.specs.inside.Held.{HeldWorker, AllOwnMail}
 use Rattle.vt_cells.specs.inside.Calls.{IsCellStepOf}
 use Rattle.vt_places.specs.declared.slot.Slot.TheVariants.{Inbox}
-use Rattle.vt_places.proofs.ActLemmas.{sent-within}
 use Rattle.vt_places.proofs.CallLemmas.{took-inbox, took-place, tried-there}
 use Rattle.vt_places.proofs.HeldLemmas.{is-inbox, found-is, found-right, puts}
 use Rattle.vt_places.proofs.PlaceLemmas.{refused, released}
-use Rattle.vt_places.proofs.Releases.{home-not_empty}
 use Rattle.vt_places.proofs.station.Station.post.Goals as goal
+
+-- a worker of the kernel's run is one of the station's
+in-run : {v : ℕ} {own config : Config} → own ≡ config → v < own.workers → v < config.workers
+in-run {v} is = subst (λ (f : Config). v < f.workers) is
 
 pub claim-requires-clause-near : goal.claim-requires-clause-near
 claim-requires-clause-near g c =
-    let r = c.requires.kernel in
-    let known = sent-within r c.args.v (c.in_ok-may_send.ensures.lawful (g.M.Model.handlers c.args.self.now.table.shared.key.model.value) r.part r.stands).0 in
+    let known = in-run c.requires.kernel.config_is (c.if-not-is_receiver.ensures.known refl) in
     omega (arith, known, c.args.self.now.counted)
 
 pub unreachable-requires : goal.unreachable-requires
 unreachable-requires g c =
-    let H = g.M.Model.handlers c.args.self.now.table.shared.key.model.value in
-    let r = c.requires.kernel in
-    let box = took-inbox (c.if-not-claim.ensures.claimed refl) c.args.place.now.rests (sent-within r c.args.v (c.in_ok-may_send.ensures.lawful H r.part r.stands).0) in
+    let box = took-inbox (c.if-not-claim.ensures.claimed refl) c.args.place.now.rests (in-run c.requires.kernel.config_is (c.if-not-is_receiver.ensures.known refl)) in
     is-inbox c.slot_mut-held.result.now box.0 (found-is box.1 c.slot_mut-held.ensures.value refl) c.in_default.not-Inbox
 
 pub release_visit-requires-after_bounds : goal.release_visit-requires-after_bounds
 release_visit-requires-after_bounds g c κs within =
     let H = g.M.Model.handlers c.args.self.now.table.shared.key.model.value in
     let r = c.requires.kernel in
-    let h = (took-inbox (c.if-not-claim.ensures.claimed refl) c.args.place.now.rests (sent-within r c.args.v (c.in_ok-may_send.ensures.lawful H r.part r.stands).0)).1 in
+    let h = (took-inbox (c.if-not-claim.ensures.claimed refl) c.args.place.now.rests (in-run r.config_is (c.if-not-is_receiver.ensures.known refl))).1 in
     let old = c.in-Inbox.mails in
     let new = c.send-answer.new.inbox in (
       omega arith,
@@ -49,7 +48,7 @@ release_visit-requires-after_bounds g c κs within =
                   in_inbox old.items,
                   in_inbox new.items,
                   puts h c.slot_mut-held.ensures.value c.in-Inbox.is (Inbox new) refl (subst (λ (f : Config). AllOwnMail f c.args.v old.items → AllOwnMail f c.args.v new.items) r.config_is c.send-answer.ensures.own (found-right h c.slot_mut-held.ensures.value c.in-Inbox.is)),
-                  (λ e. home-not_empty e),
+                  (λ e. ap in_inbox (c.word_of_inbox-word.ensures.empty e)),
                   subst (λ (x : Config × ℕ × HeldWorker _ _ _ × HeldWorker _ _ _ × Result Reply Fault). IsCellStepOf H x.0 (Send x.1 c.args.v) x.2 x.3 (in_inbox old.items) (in_inbox new.items) x.4)
                       (λ i. (r.config_is i, (r.worker ∙ c.args.place.now.own) i, sym c.of-before.ensures i, sym c.of.ensures i, sym c.done_of.ensures i)) (c.send-answer.ensures.step H),
                 ),
