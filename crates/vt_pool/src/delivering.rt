@@ -10,7 +10,7 @@ ghost use Rattle.vt_steps.specs.promise.Letters.{stamped, signed};
 ghost use Rattle.vt_pool.specs.inside.Executing.{ComesHome, AreDelivered};
 
 use crate::kept::Kept;
-use crate::posting::letter_of;
+use crate::letters::letter_of;
 use vt_calendar::Calendar;
 use vt_key::{Letter, MAX_COUNT, Sign, When};
 use vt_list::Parcel;

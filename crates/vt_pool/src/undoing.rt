@@ -16,8 +16,8 @@ ghost use Rattle.vt_pool.specs.inside.View.{number_at, past_at};
 ghost use Rattle.vt_pool.specs.inside.Share.{AreSettledBut, PoolLeadsTo};
 ghost use Rattle.vt_pool.specs.inside.Pool.{pool_after_undo, weight_of, with_waiting};
 
+use crate::letters::put_letters;
 use crate::pool::Pool;
-use crate::posting::post;
 use vt_key::{Letter, Rank, Sign};
 use vt_logs::Entry;
 use vt_model::{Model as EventModel, Process, Sent};
@@ -36,7 +36,7 @@ impl<M: EventModel> Pool<M> {
         let serial = last.serial;
         let sends = self.log.last_sends(index);
         self.hints.count_undo(sends.len());
-        post(
+        put_letters(
             &mut self.kept,
             &mut self.outbox,
             Sign::Minus,

@@ -75,8 +75,8 @@ returns-in_default-clause-undone g c event triple last at =
     let seen : last_or None (past_at c.args.index (map (placed i.worker) i.log.events)) ≡ Some event = subst (λ (v : HeldPool _ _ _). last_or None (past_at c.args.index v.stock.past) ≡ Some event) (sym c.self.view_is) last in
     absurd (none-some event (sym none ∙ seen))
 
-pub post-requires-clause-room : goal.post-requires-clause-room
-post-requires-clause-room g c =
+pub put_letters-requires-clause-room : goal.put_letters-requires-clause-room
+put_letters-requires-clause-room g c =
     let i = c.self.inside in
     let e = c.in-Some.ensures.0 in
     let at = c.in-Some.ensures.1 in
@@ -85,8 +85,8 @@ post-requires-clause-room g c =
     let enough = c.self.invariant.0.enough in
     room-for _ _ _ _ _ nodes sends enough
 
-pub post-requires-clause-few : goal.post-requires-clause-few
-post-requires-clause-few g c =
+pub put_letters-requires-clause-few : goal.put_letters-requires-clause-few
+put_letters-requires-clause-few g c =
     let i = c.self.inside in
     let e = c.in-Some.ensures.0 in
     let at = c.in-Some.ensures.1 in
@@ -126,7 +126,7 @@ put-node-requires g c =
     let nodes = nodes-last i.worker c.args.index e i.log.events at in
     let sends = ap length (sends-of_last at c.last_sends-sends.ensures) in
     let enough = c.self.invariant.0.enough in
-    let left = c.post.ensures.taken in
+    let left = c.put_letters.ensures.taken in
     record { some = one-left _ _ _ _ _ _ nodes sends enough left }
 
 pub put-requires : goal.put-requires
@@ -160,14 +160,14 @@ kept-after g c =
     λ j. record { triples = sym (map-put standing i.processes.items c.args.index c.undo_entry.new.process) j; past = sym events j; pending = sym pending j; waiting = i.waiting }
 
 -- the outbox after it
-sent-after : (g : Over) (c : After-put g) → c.post.new.outbox ≡ record c.self.inside.outbox { letters = c.self.inside.outbox.letters ++ (placed c.self.inside.worker c.in-Some.ensures.0).event.undo_entry.anti_messages }
+sent-after : (g : Over) (c : After-put g) → c.put_letters.new.outbox ≡ record c.self.inside.outbox { letters = c.self.inside.outbox.letters ++ (placed c.self.inside.worker c.in-Some.ensures.0).event.undo_entry.anti_messages }
 sent-after g c =
     let i = c.self.inside in
     let e = c.in-Some.ensures.0 in
     let at = c.in-Some.ensures.1 in
     let serial = ap (λ (x : Entry _ _). x.serial) c.in-Some.ensures.2 in
     let sends = sends-of_last at c.last_sends-sends.ensures in
-    c.post.ensures.posted ∙ (λ j. record i.outbox { letters = i.outbox.letters ++ map (signed Minus) (stamped i.worker (serial j) (sends j)) })
+    c.put_letters.ensures.posted ∙ (λ j. record i.outbox { letters = i.outbox.letters ++ map (signed Minus) (stamped i.worker (serial j) (sends j)) })
 
 -- the process was there
 there : (g : Over) (c : After-put g) → slice_get c.self.inside.processes.items c.args.index ≡ Some c.index_mut.result.now
@@ -191,14 +191,14 @@ invariant_of-self g c =
     let moved = c.undo_entry.ensures.stream in
     let sends = ap length (sends-of_last at c.last_sends-sends.ensures) in
     let anti = length-letters Minus i.worker e.entry.serial e.sends in
-    let posted = c.post.ensures.taken in
+    let posted = c.put_letters.ensures.taken in
     let put = c.put-node.ensures.taken in
-    let pool = pool-undone c.self.invariant.0 c.args.index (standing after) event c.index_mut.result.now.stream after.stream c.put-node.new.self c.post.new.outbox
+    let pool = pool-undone c.self.invariant.0 c.args.index (standing after) event c.index_mut.result.now.stream after.stream c.put-node.new.self c.put_letters.new.outbox
     (last-is i.worker c.args.index e i.log.events at) (subst (λ n. n ≤ MAX_COUNT) (sym number) mine.numbered)
     (get-map_of stream i.processes.items c.args.index c.index_mut.result.now (there g c)) (ap (λ (s : Stream). s.key) moved) (ap (λ (s : Stream). s.process) moved) (sent-after g c)
     (omega (arith, sends, anti, posted, put)) in
     let streams = sym (map-put stream i.processes.items c.args.index after) in (
-      coe 0 1 (j. IsPoolInside i.config i.worker (kept-after g c j) (streams j) c.post.new.outbox i.serial i.reached i.heard.items c.put-node.new.self) pool,
+      coe 0 1 (j. IsPoolInside i.config i.worker (kept-after g c j) (streams j) c.put_letters.new.outbox i.serial i.reached i.heard.items c.put-node.new.self) pool,
       subst (AreMade i.serial) (sym c.take_last.ensures.left)
           (every-without_last i.worker (λ (d : Logged _ _). d.entry.serial + length d.sends ≤ i.serial) c.args.index i.log.events c.self.invariant.1),
       c.take_last.ensures.processes ∙ c.self.invariant.2 ∙ sym (length-set i.processes.items c.args.index after),

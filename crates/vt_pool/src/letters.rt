@@ -12,7 +12,7 @@ use vt_outbox::Outbox;
 /// must be a node for each.
 // An event mostly sends one letter.
 #[inline(always)]
-pub(crate) fn post<P: Copy>(
+pub(crate) fn put_letters<P: Copy>(
     kept: &mut Kept<P>,
     outbox: &mut Outbox<P>,
     sign: Sign,

@@ -1,6 +1,6 @@
 use Rattle.std.proofs.Common.{◌≡◌, ◌+◌, ◌++◌, [], ◌∷◌, map, take}
 use Rattle.vt_steps.specs.promise.Letters.{stamped, signed}
-use Rattle.vt_pool.proofs.posting.post.Given as goal
+use Rattle.vt_pool.proofs.letters.put_letters.Given as goal
 
 abbrev pub ghost-push : goal.ghost-push
 ghost-push g a = a.self.now.letters ++ a.letter ∷ []

@@ -4,7 +4,7 @@ use Rattle.vt_key.specs.declared.letter.Letter.{Letter}
 use Rattle.vt_model.specs.declared.sending.Sent.{Sent}
 use Rattle.vt_steps.specs.promise.Letters.{stamped, signed}
 use Rattle.vt_lp.proofs.Stamping.{event_of, letters-more}
-use Rattle.vt_pool.proofs.posting.post.Goals as goal
+use Rattle.vt_pool.proofs.letters.put_letters.Goals as goal
 
 pub loop-send-preserved : goal.loop-send-preserved
 loop-send-preserved g c =
