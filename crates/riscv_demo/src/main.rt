@@ -10,7 +10,7 @@ use std::alloc::{AllocError, Global};
 use std::io;
 use std::string::String;
 use std::vec::Vec;
-use vt_riscv::{Code, IMAGE, Machine, Outcome, RETURN, STATE, Stop, Trap};
+use vt_riscv::{Code, Core, IMAGE, Outcome, RETURN, STATE, Stop, Trap};
 
 // How many bytes the image has, and the state.
 const PAGE: usize = 4_096;
@@ -64,35 +64,40 @@ fn read(alloc: Global, text: &str) -> Result<Line, AllocError> {
     Ok(Line { x, y, image })
 }
 
-// The machine before the first instruction.
-fn machine(x: u64, y: u64) -> Machine<PAGE> {
-    let mut machine = Machine {
+// The machine before the first instruction, but for its state.
+fn machine(x: u64, y: u64) -> Core {
+    let mut core = Core {
         place: IMAGE,
         registers: [0; 32],
-        state: [0; PAGE],
         stack: [0; 1_024],
     };
-    machine.registers[1] = RETURN;
-    machine.registers[2] = STATE;
-    machine.registers[8] = STATE + 2_048;
-    machine.registers[9] = IMAGE;
-    machine.registers[10] = x;
-    machine.registers[11] = y;
+    core.registers[1] = RETURN;
+    core.registers[2] = STATE;
+    core.registers[8] = STATE + 2_048;
+    core.registers[9] = IMAGE;
+    core.registers[10] = x;
+    core.registers[11] = y;
+    core
+}
+
+// Its state.
+fn state() -> [u8; PAGE] {
+    let mut state = [0; PAGE];
     let mut value = 11_u8;
-    for byte in machine.state.iter_mut() {
+    for byte in state.iter_mut() {
         *byte = value;
         value = value.wrapping_add(37);
     }
-    machine
+    state
 }
 
 // A sum in which each number and its place tell.
-fn sum(machine: &Machine<PAGE>) -> u64 {
+fn sum(core: &Core, state: &[u8; PAGE]) -> u64 {
     let mut sum = 0_u64;
-    for number in machine.registers.iter() {
+    for number in core.registers.iter() {
         sum = sum.wrapping_mul(31).wrapping_add(*number);
     }
-    for byte in machine.stack.iter().chain(machine.state.iter()) {
+    for byte in core.stack.iter().chain(state.iter()) {
         sum = sum.wrapping_mul(31).wrapping_add(u64::from(*byte));
     }
     sum
@@ -113,15 +118,16 @@ fn word(outcome: Outcome) -> &'static str {
 
 fn describe(alloc: Global, text: &str) -> Result<String, AllocError> {
     let line = read(alloc, text)?;
-    let mut machine = machine(line.x, line.y);
+    let mut core = machine(line.x, line.y);
+    let mut state = state();
     let code = Code::new(alloc, line.image, PAGE, Vec::new(alloc), true)?;
-    let outcome = machine.run(&code, FUEL);
+    let outcome = core.run::<PAGE, 0>(&code, &mut state, FUEL);
     format!(in alloc;
         "{} {:x} {:x} {:x}",
         word(outcome),
-        machine.place,
-        machine.registers[12],
-        sum(&machine)
+        core.place,
+        core.registers[12],
+        sum(&core, &state)
     )
 }
 

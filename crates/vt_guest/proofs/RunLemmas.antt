@@ -6,7 +6,7 @@ use Rattle.vt_model.specs.promise.Sends.{SendRequest, RecordRequest}
 use Rattle.vt_model.specs.inside.Sends.{Outgoing, with_requests, taken_back}
 use Rattle.vt_guest.specs.declared.trap.Reason.TheVariants.{Spent}
 use Rattle.vt_guest.specs.declared.calls.Host.{Host}
-use Rattle.vt_guest.specs.declared.calls.Handling.{Handling}
+use Rattle.vt_guest.specs.promise.Calls.{Handling}
 use Rattle.vt_guest.specs.declared.calls.Next.{Next}
 use Rattle.vt_guest.specs.declared.process.Words.{Words}
 use Rattle.vt_guest.specs.promise.Handling.{Handled, turn_of, followed, handled, fails}

@@ -1,3 +1,4 @@
 pub mod Handlers
 pub mod Laws
+pub mod Progresses
 pub mod Showing

@@ -1,15 +1,16 @@
 //! The calls of the simulator.
 
-ghost use Rattle.std.specs.Prelude.{◌≡◌, ◌+◌, ◌<◌, ◌≤◌, [], ◌∷◌, length};
+ghost use Rattle.std.specs.Prelude.{◌≡◌, ℕ, List, ◌+◌, ◌<◌, ◌≤◌, [], ◌∷◌, length};
 ghost use Rattle.vt_model.specs.declared.limits.TheConstants.{MAX_DRAWS, MAX_SENDS, MAX_RECORDS};
 ghost use Rattle.vt_model.specs.inside.Handler.{IsSendable};
 ghost use Rattle.vt_model.specs.inside.Sends.{with_requests};
 ghost use Rattle.vt_guest.specs.promise.Calls.{most_draws, most_records, low, call_of, send_of, emit_of, below_of, lps_of, passed, request_of, note_of, answered_by};
+ghost use Rattle.vt_guest.specs.inside.Progresses.{handling_of, bare, progress_of};
 
 use crate::process::Words;
 use crate::trap::{Reason, TRAP};
 use vt_model::{MAX_DRAWS, MAX_RECORDS, Out};
-use vt_riscv::Machine;
+use vt_riscv::Core;
 
 /// The handlers that a program has.
 #[derive(Clone, Copy)]
@@ -56,10 +57,10 @@ pub(crate) struct Host {
     pub data_size: u64,
 }
 
-/// A handler under way: its machine, and how many words it has drawn so far.
+/// How far a handler has come: its machine but for the state, and how many words it has drawn so far.
 #[derive(Drop)]
-pub(crate) struct Handling<const SIZE: usize> {
-    pub machine: Machine<SIZE>,
+pub(crate) struct Progress {
+    pub core: Core,
     /// How many steps it may still make.
     pub left: u64,
     pub drawn: u32,
@@ -90,22 +91,22 @@ fn low(x: u64) -> u32
     (x % 0x1_0000_0000) as u32
 }
 
-impl<const SIZE: usize> Handling<SIZE> {
+impl Progress {
     // Goes on behind a call that has no answer.
     #[inline(always)]
     fn pass(&mut self)
-        ensures { self.new ≡ passed self.old }
+        ensures { self.new ≡ progress_of (passed (bare self.old)) }
     {
-        let same = self.machine.registers[10];
-        self.machine.answer(same);
+        let same = self.core.registers[10];
+        self.core.answer(same);
     }
 
     // A number below another is to be drawn.
     #[inline(always)]
     fn below(&self) -> Next
-        ensures { result ≡ (below_of self.now).next }
+        ensures { (n : ℕ) (bytes : List ℕ) → result ≡ (below_of (handling_of n self.now bytes)).next }
     {
-        let n = self.machine.registers[10];
+        let n = self.core.registers[10];
         if n == 0 || n > 0x1_0000_0000 {
             Next::Trapped(Reason::BadCall)
         } else {
@@ -116,11 +117,11 @@ impl<const SIZE: usize> Handling<SIZE> {
     // An event is to be sent.
     #[inline(always)]
     fn send(&self, host: Host) -> Next
-        ensures { result ≡ (send_of host self.now).next }
+        ensures { (n : ℕ) (bytes : List ℕ) → result ≡ (send_of host (handling_of n self.now bytes)).next }
     {
-        let dest = low(self.machine.registers[10]);
-        let delay = self.machine.registers[11];
-        let priority = low(self.machine.registers[12]);
+        let dest = low(self.core.registers[10]);
+        let delay = self.core.registers[11];
+        let priority = low(self.core.registers[12]);
         let known = dest < host.lps;
         let ordered = priority < 256;
         let later = delay > 0 || priority > u32::from(host.priority);
@@ -134,9 +135,9 @@ impl<const SIZE: usize> Handling<SIZE> {
     // A record is to be made.
     #[inline(always)]
     fn emit(&self) -> Next
-        ensures { result ≡ (emit_of self.now).next }
+        ensures { (n : ℕ) (bytes : List ℕ) → result ≡ (emit_of (handling_of n self.now bytes)).next }
     {
-        if low(self.machine.registers[10]) == TRAP {
+        if low(self.core.registers[10]) == TRAP {
             Next::Trapped(Reason::BadCall)
         } else {
             Next::Emit
@@ -147,13 +148,13 @@ impl<const SIZE: usize> Handling<SIZE> {
     #[tactic(auto, unfolding(crate::specs::promise::Calls::lps_of))]
     #[inline(always)]
     fn lps(&mut self, host: Host) -> Next
-        ensures next { result ≡ (lps_of host self.old).next }
-        ensures handling { self.new ≡ (lps_of host self.old).handling }
+        ensures next { (n : ℕ) (bytes : List ℕ) → result ≡ (lps_of host (handling_of n self.old bytes)).next }
+        ensures handling { (n : ℕ) (bytes : List ℕ) → handling_of n self.new bytes ≡ (lps_of host (handling_of n self.old bytes)).handling }
     {
         if host.lps == 0 {
             return Next::Trapped(Reason::BadCall);
         }
-        self.machine.answer(u64::from(host.lps));
+        self.core.answer(u64::from(host.lps));
         Next::On
     }
 
@@ -161,17 +162,17 @@ impl<const SIZE: usize> Handling<SIZE> {
     #[tactic(auto, unfolding(crate::specs::promise::Calls::call_of))]
     #[inline(always)]
     pub fn call(&mut self, host: Host) -> Next
-        ensures next { result ≡ (call_of host self.old).next }
-        ensures handling { self.new ≡ (call_of host self.old).handling }
+        ensures next { (n : ℕ) (bytes : List ℕ) → result ≡ (call_of host (handling_of n self.old bytes)).next }
+        ensures handling { (n : ℕ) (bytes : List ℕ) → handling_of n self.new bytes ≡ (call_of host (handling_of n self.old bytes)).handling }
     {
-        match self.machine.registers[17] {
+        match self.core.registers[17] {
             0 => self.below(),
             1 => Next::Draw,
             2 => self.send(host),
             3 => self.emit(),
             4 => self.lps(host),
             5 => {
-                self.machine.answer(host.data_size);
+                self.core.answer(host.data_size);
                 Next::On
             }
             _ => Next::Trapped(Reason::BadCall),
@@ -182,34 +183,34 @@ impl<const SIZE: usize> Handling<SIZE> {
     #[inline(always)]
     pub fn answer(&mut self, word: u32)
         requires { self.old.drawn < MAX_DRAWS }
-        ensures { self.new ≡ answered_by self.old word }
+        ensures { self.new ≡ progress_of (answered_by (bare self.old) word) }
     {
         self.drawn += 1;
-        let n = self.machine.registers[10];
-        let value = if self.machine.registers[17] == 0 && n <= 0x1_0000_0000 {
+        let n = self.core.registers[10];
+        let value = if self.core.registers[17] == 0 && n <= 0x1_0000_0000 {
             u64::from(word) * n / 0x1_0000_0000
         } else {
             u64::from(word)
         };
-        self.machine.answer(value);
+        self.core.answer(value);
     }
 
     /// The event of a call is sent.
     #[inline(always)]
     pub fn send_into(&mut self, out: &mut Out<Words>)
-        requires sendable { IsSendable out.old.lps out.old.time (request_of self.old) }
+        requires sendable { IsSendable out.old.lps out.old.time (request_of (bare self.old)) }
         requires room { out.old.number < out.old.first + MAX_SENDS }
-        ensures handling { self.new ≡ passed self.old }
-        ensures out { out.new ≡ with_requests out.old (request_of self.old ∷ []) [] }
+        ensures handling { self.new ≡ progress_of (passed (bare self.old)) }
+        ensures out { out.new ≡ with_requests out.old (request_of (bare self.old) ∷ []) [] }
     {
         let words = Words {
-            a: self.machine.registers[13],
-            b: self.machine.registers[14],
+            a: self.core.registers[13],
+            b: self.core.registers[14],
         };
         out.send(
-            low(self.machine.registers[10]),
-            self.machine.registers[11],
-            low(self.machine.registers[12]) as u8,
+            low(self.core.registers[10]),
+            self.core.registers[11],
+            low(self.core.registers[12]) as u8,
             words,
         );
         self.pass();
@@ -219,11 +220,11 @@ impl<const SIZE: usize> Handling<SIZE> {
     #[inline(always)]
     pub fn emit_into(&mut self, out: &mut Out<Words>)
         requires { length out.old.records < MAX_RECORDS }
-        ensures handling { self.new ≡ passed self.old }
-        ensures out { out.new ≡ with_requests out.old [] (note_of self.old ∷ []) }
+        ensures handling { self.new ≡ progress_of (passed (bare self.old)) }
+        ensures out { out.new ≡ with_requests out.old [] (note_of (bare self.old) ∷ []) }
     {
-        let kind = low(self.machine.registers[10]);
-        out.emit(kind, self.machine.registers[11]);
+        let kind = low(self.core.registers[10]);
+        out.emit(kind, self.core.registers[11]);
         self.pass();
     }
 }

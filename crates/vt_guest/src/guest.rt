@@ -4,7 +4,7 @@ ghost use Rattle.std.specs.Prelude.{◌≡◌, length};
 ghost use Rattle.vt_guest.specs.promise.Handlers.{host_of};
 ghost use Rattle.vt_guest.specs.inside.Handlers.{padded, state_size_of};
 
-use crate::calls::{Handler, Handling, Host};
+use crate::calls::{Handler, Host, Progress};
 use crate::process::{Class, Process, StateSize, Words};
 use crate::trap::{TRAP, trap_value};
 use vt_key::When;
@@ -98,18 +98,19 @@ where
         let program = &self.program;
         let host = program.host(Handler::Start, out.lps(), 0);
         let none = Words { a: 0, b: 0 };
-        let mut handling = Handling::begin(program.start, program.fuel, lp, 0, 0, none, self.first);
-        match handling.run(&program.code, host, draws, out) {
-            Ok(()) => Process {
-                bytes: handling.machine.state,
-                failed: 0,
-            },
+        let mut process = Process {
+            bytes: self.first,
+            failed: 0,
+        };
+        let mut progress = Progress::begin(program.start, program.fuel, lp, 0, 0, none);
+        match progress.run(&program.code, &mut process.bytes, host, draws, out) {
+            Ok(()) => process,
             Err(reason) => {
                 out.take_back();
                 out.send(lp, 0, 1, none);
                 Process {
                     bytes: self.first,
-                    failed: trap_value(reason, handling.machine.place),
+                    failed: trap_value(reason, progress.core.place),
                 }
             }
         }
@@ -132,21 +133,20 @@ where
         }
         let program = &self.program;
         let host = program.host(Handler::Forward, out.lps(), now.priority());
-        let mut handling = Handling::begin(
+        let mut progress = Progress::begin(
             program.forward,
             program.fuel,
             lp,
             now.ticks(),
             now.priority(),
             payload,
-            before.bytes,
         );
-        match handling.run(&program.code, host, draws, out) {
-            Ok(()) => state.bytes = handling.machine.state,
-            Err(reason) => {
-                out.take_back();
-                out.emit(TRAP, trap_value(reason, handling.machine.place));
-            }
+        if let Err(reason) = progress.run(&program.code, &mut state.bytes, host, draws, out) {
+            // Of the state it may have changed the bytes alone.
+            let bytes = before.bytes;
+            state.bytes = bytes;
+            out.take_back();
+            out.emit(TRAP, trap_value(reason, progress.core.place));
         }
         before
     }
@@ -169,17 +169,17 @@ where
         }
         let program = &self.program;
         let host = program.host(Handler::Finish, 0, 0);
-        let mut handling = Handling::begin(
+        let mut bytes = state.bytes;
+        let mut progress = Progress::begin(
             program.finish,
             program.fuel,
             lp,
             0,
             0,
             Words { a: 0, b: 0 },
-            state.bytes,
         );
-        match handling.run_finish(&program.code, host) {
-            Ok(()) => handling.machine.registers[10],
+        match progress.run_finish(&program.code, &mut bytes, host) {
+            Ok(()) => progress.core.registers[10],
             Err(_) => u64::MAX,
         }
     }

@@ -9,13 +9,14 @@ ghost use Rattle.vt_model.specs.inside.Sends.{with_requests};
 ghost use Rattle.vt_model.specs.declared.limits.TheConstants.{MAX_SENDS};
 ghost use Rattle.vt_guest.specs.declared.calls.Handler.TheVariants.{Finish};
 ghost use Rattle.vt_guest.specs.promise.Calls.{most_sends};
+ghost use Rattle.vt_guest.specs.inside.Progresses.{handling_of, progress_of};
 ghost use Rattle.vt_guest.specs.promise.Handling.{blank_stack, begun, turn_of, handled};
 
-use crate::calls::{Handling, Host, Next};
+use crate::calls::{Host, Next, Progress};
 use crate::process::Words;
 use crate::trap::{Reason, reason_of};
 use vt_model::{Draws, Out};
-use vt_riscv::{Code, Machine, RETURN, STACK, STATE, Stop};
+use vt_riscv::{Code, Core, RETURN, STACK, STATE, Stop};
 
 // The stack at the beginning of a handler.
 #[inline]
@@ -25,19 +26,11 @@ fn blank_stack() -> [u8; STACK]
     [0; STACK]
 }
 
-impl<const SIZE: usize> Handling<SIZE> {
+impl Progress {
     /// A handler at its beginning, with so many steps to make. Registers a0 to a4 have its arguments.
     #[inline(always)]
-    pub fn begin(
-        entry: u64,
-        fuel: u64,
-        lp: u32,
-        tick: u64,
-        priority: u8,
-        words: Words,
-        state: [u8; SIZE],
-    ) -> Self
-        ensures { result ≡ begun entry fuel lp tick priority words state.entry }
+    pub fn begin(entry: u64, fuel: u64, lp: u32, tick: u64, priority: u8, words: Words) -> Self
+        ensures { result ≡ progress_of (begun {N = 0} entry fuel lp tick priority words []) }
     {
         let registers = [
             0,
@@ -73,11 +66,10 @@ impl<const SIZE: usize> Handling<SIZE> {
             0,
             0,
         ];
-        Handling {
-            machine: Machine {
+        Progress {
+            core: Core {
                 place: entry,
                 registers,
-                state,
                 stack: blank_stack(),
             },
             left: fuel,
@@ -85,13 +77,18 @@ impl<const SIZE: usize> Handling<SIZE> {
         }
     }
 
-    // On to where the machine stops next. If it stops at a call, the call is made.
+    // On to where the machine stops next. If it stops at a call, the call is made. Each caller gives another `COPY`, as to `Core::run`.
     #[inline(always)]
-    fn turn(&mut self, code: &Code, host: Host) -> Next
-        ensures next { result ≡ (turn_of code.now host self.old).next }
-        ensures handling { self.new ≡ (turn_of code.now host self.old).handling }
+    fn turn<const SIZE: usize, const COPY: u8>(
+        &mut self,
+        code: &Code,
+        state: &mut [u8; SIZE],
+        host: Host,
+    ) -> Next
+        ensures next { result ≡ (turn_of code.now host (handling_of SIZE self.old state.old)).next }
+        ensures handling { handling_of SIZE self.new state.new ≡ (turn_of code.now host (handling_of SIZE self.old state.old)).handling }
     {
-        let outcome = self.machine.run(code, self.left);
+        let outcome = self.core.run::<SIZE, COPY>(code, state, self.left);
         self.left = outcome.left;
         match outcome.stop {
             Stop::Called => self.call(host),
@@ -101,10 +98,11 @@ impl<const SIZE: usize> Handling<SIZE> {
         }
     }
 
-    /// Runs a handler to its end. An error tells why it trapped.
-    pub fn run(
+    /// Runs a handler to its end. An error tells why it trapped, and what it did to the state until then stays.
+    pub fn run<const SIZE: usize>(
         &mut self,
         code: &Code,
+        state: &mut [u8; SIZE],
         host: Host,
         draws: &mut Draws<'_>,
         out: &mut Out<Words>,
@@ -116,9 +114,9 @@ impl<const SIZE: usize> Handling<SIZE> {
         requires lps { host.lps ≡ out.old.lps }
         requires priority { host.priority ≡ priority_of out.old.time }
         requires most { most_sends host.handler ≡ MAX_SENDS }
-        ensures end { result ≡ (handled code.now host (word_of (stream_in draws.old)) self.old.left self.old [] []).end }
-        ensures handling { self.new ≡ (handled code.now host (word_of (stream_in draws.old)) self.old.left self.old [] []).handling }
-        ensures out { let run = handled code.now host (word_of (stream_in draws.old)) self.old.left self.old [] [] in out.new ≡ with_requests out.old run.sends run.notes }
+        ensures end { result ≡ (handled code.now host (word_of (stream_in draws.old)) self.old.left (handling_of SIZE self.old state.old) [] []).end }
+        ensures handling { handling_of SIZE self.new state.new ≡ (handled code.now host (word_of (stream_in draws.old)) self.old.left (handling_of SIZE self.old state.old) [] []).handling }
+        ensures out { let run = handled code.now host (word_of (stream_in draws.old)) self.old.left (handling_of SIZE self.old state.old) [] [] in out.new ≡ with_requests out.old run.sends run.notes }
         ensures same_reference { IsSameSource draws.old draws.new }
         ensures drawn { drawn_in draws.new ≡ self.new.drawn }
         ensures stream { stream_in draws.new ≡ moved (stream_in draws.old) self.new.drawn }
@@ -126,7 +124,7 @@ impl<const SIZE: usize> Handling<SIZE> {
         let mut calls = self.left;
         'calls: while calls > 0 {
             calls -= 1;
-            match self.turn(code, host) {
+            match self.turn::<SIZE, 1>(code, state, host) {
                 Next::On => {}
                 Next::Draw => {
                     if self.drawn >= host.handler.most_draws() {
@@ -155,15 +153,20 @@ impl<const SIZE: usize> Handling<SIZE> {
     }
 
     /// Runs a `finish`, which may draw, send and record nothing.
-    pub fn run_finish(&mut self, code: &Code, host: Host) -> Result<(), Reason>
+    pub fn run_finish<const SIZE: usize>(
+        &mut self,
+        code: &Code,
+        state: &mut [u8; SIZE],
+        host: Host,
+    ) -> Result<(), Reason>
         requires { host.handler ≡ Finish }
-        ensures end { (words : ℕ → ℕ) → result ≡ (handled code.now host words self.old.left self.old [] []).end }
-        ensures handling { (words : ℕ → ℕ) → self.new ≡ (handled code.now host words self.old.left self.old [] []).handling }
+        ensures end { (words : ℕ → ℕ) → result ≡ (handled code.now host words self.old.left (handling_of SIZE self.old state.old) [] []).end }
+        ensures handling { (words : ℕ → ℕ) → handling_of SIZE self.new state.new ≡ (handled code.now host words self.old.left (handling_of SIZE self.old state.old) [] []).handling }
     {
         let mut calls = self.left;
         'calls: while calls > 0 {
             calls -= 1;
-            match self.turn(code, host) {
+            match self.turn::<SIZE, 2>(code, state, host) {
                 Next::On => {}
                 Next::Draw | Next::Send | Next::Emit => return Err(Reason::TooMany),
                 Next::Ended => return Ok(()),

@@ -2,7 +2,7 @@
 use Rattle.std.proofs.Common.{◌≡◌, ℕ, zero, suc, nat_eq, if◌then◌else◌, Option, Some, None, sym, ap, ◌∙◌}
 use Rattle.vt_riscv.specs.declared.places.TheConstants.{RETURN}
 use Rattle.vt_riscv.specs.declared.code.Code.{Code}
-use Rattle.vt_riscv.specs.declared.machine.Machine.{Machine}
+use Rattle.vt_riscv.specs.promise.Machines.{Machine}
 use Rattle.vt_riscv.specs.declared.machine.Stop.{Stop}
 use Rattle.vt_riscv.specs.declared.machine.Stop.TheVariants.{Ended, Spent}
 use Rattle.vt_riscv.specs.promise.Steps.{step_of, followed, run_of}

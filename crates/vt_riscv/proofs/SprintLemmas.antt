@@ -5,7 +5,7 @@ use Rattle.vt_riscv.specs.declared.instruction.Operation.{Operation}
 use Rattle.vt_riscv.specs.declared.instruction.Operation.TheVariants.{Bad}
 use Rattle.vt_riscv.specs.declared.ready.Head.{Head}
 use Rattle.vt_riscv.specs.declared.code.Code.{Code}
-use Rattle.vt_riscv.specs.declared.machine.Machine.{Machine}
+use Rattle.vt_riscv.specs.promise.Machines.{Machine}
 use Rattle.vt_riscv.specs.declared.machine.Trap.TheVariants.{BadInstruction}
 use Rattle.vt_riscv.specs.declared.machine.Stop.{Stop}
 use Rattle.vt_riscv.specs.declared.machine.Stop.TheVariants.{Called, Trapped}

@@ -1,2 +1,3 @@
+pub mod Cores
 pub mod Readiness
 pub mod Sprints

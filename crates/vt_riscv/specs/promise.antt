@@ -4,4 +4,5 @@ pub mod Decoding
 pub mod Compressed
 pub mod Codes
 pub mod Effects
+pub mod Machines
 pub mod Steps

@@ -18,5 +18,5 @@ pub use code::Code;
 pub use compressed::decode_compressed;
 pub use decoding::decode;
 pub use instruction::{Instruction, Operation};
-pub use machine::{Machine, Outcome, Stop, Trap};
+pub use machine::{Core, Outcome, Stop, Trap};
 pub use places::{DATA, IMAGE, RETURN, STACK, STATE};

@@ -1,6 +1,7 @@
 //! The machine, and what one instruction does to it.
 
-ghost use Rattle.std.specs.Prelude.{◌≡◌};
+ghost use Rattle.std.specs.Prelude.{◌≡◌, ℕ, List};
+ghost use Rattle.vt_riscv.specs.inside.Cores.{machine_of, bare, core_of};
 ghost use Rattle.vt_riscv.specs.promise.Steps.{is_misaligned, fetch_of, with_register, put_in, passed, jumped, branched, register_of, loaded_from, loaded, loaded_signed, stored_at, exec_of, step_of, run_of, answered};
 
 use crate::effect::{Effect, effect_of};
@@ -23,7 +24,7 @@ pub enum Trap {
 /// Why a run stops.
 #[derive(Debug, Clone, Copy, PartialEq, Eq)]
 pub enum Stop {
-    /// The instruction is ECALL. The machine is as before it, at its place: [`Machine::answer`] goes on behind it.
+    /// The instruction is ECALL. The machine is as before it, at its place: [`Core::answer`] goes on behind it.
     Called,
     /// The program came to `RETURN`.
     Ended,
@@ -42,15 +43,13 @@ pub struct Outcome {
     pub left: u64,
 }
 
-/// A machine, with a state of `N` bytes.
+/// A machine but for its state: its place, its registers and its stack.
 #[derive(Clone, Copy)]
-pub struct Machine<const N: usize> {
+pub struct Core {
     /// The place of the next instruction.
     pub place: u64,
     /// The registers x0 to x31. The first stays 0.
     pub registers: [u64; 32],
-    /// The bytes from `STATE` on.
-    pub state: [u8; N],
     /// The bytes right below `STATE`.
     pub stack: [u8; STACK],
 }
@@ -84,10 +83,10 @@ fn fetch(code: &Code, place: u64) -> Option<Instruction>
         .copied()
 }
 
-impl<const N: usize> Machine<N> {
+impl Core {
     #[inline]
     fn register(&self, r: u8) -> u64
-        ensures { result ≡ register_of self.now r }
+        ensures { result ≡ register_of (bare self.now) r }
     {
         self.registers[(r % 32) as usize]
     }
@@ -95,7 +94,7 @@ impl<const N: usize> Machine<N> {
     // Puts a number into a register, of which the first stays 0.
     #[inline]
     fn set(&mut self, r: u8, v: u64)
-        ensures { self.new ≡ with_register self.old r v }
+        ensures { self.new ≡ core_of (with_register (bare self.old) r v) }
     {
         self.registers[(r % 32) as usize] = v;
         self.registers[0] = 0;
@@ -104,8 +103,8 @@ impl<const N: usize> Machine<N> {
     // Puts a number into the register of an instruction's result, and goes on behind it.
     #[inline]
     fn put(&mut self, i: Instruction, v: u64) -> Option<Stop>
-        ensures stop { result ≡ (put_in self.old i v).stop }
-        ensures machine { self.new ≡ (put_in self.old i v).machine }
+        ensures stop { result ≡ (put_in (bare self.old) i v).stop }
+        ensures machine { self.new ≡ core_of (put_in (bare self.old) i v).machine }
     {
         self.set(i.destination, v);
         self.pass(i)
@@ -114,8 +113,8 @@ impl<const N: usize> Machine<N> {
     // Goes on behind an instruction.
     #[inline]
     fn pass(&mut self, i: Instruction) -> Option<Stop>
-        ensures stop { result ≡ (passed self.old i).stop }
-        ensures machine { self.new ≡ (passed self.old i).machine }
+        ensures stop { result ≡ (passed (bare self.old) i).stop }
+        ensures machine { self.new ≡ core_of (passed (bare self.old) i).machine }
     {
         self.place = self.place.wrapping_add(u64::from(i.length));
         None
@@ -124,8 +123,8 @@ impl<const N: usize> Machine<N> {
     // Goes on at another place, and puts the place behind the instruction into a register.
     #[inline]
     fn jump(&mut self, code: &Code, i: Instruction, to: u64) -> Option<Stop>
-        ensures stop { result ≡ (jumped code.now self.old i to).stop }
-        ensures machine { self.new ≡ (jumped code.now self.old i to).machine }
+        ensures stop { (n : ℕ) (bytes : List ℕ) → result ≡ (jumped code.now (machine_of n self.old bytes) i to).stop }
+        ensures machine { (n : ℕ) (bytes : List ℕ) → machine_of n self.new bytes ≡ (jumped code.now (machine_of n self.old bytes) i to).machine }
     {
         if is_misaligned(code, to) {
             return Some(Stop::Trapped(Trap::BadJump));
@@ -139,8 +138,8 @@ impl<const N: usize> Machine<N> {
     // Goes on at another place, if the branch is taken.
     #[inline]
     fn branch(&mut self, code: &Code, i: Instruction, taken: bool) -> Option<Stop>
-        ensures stop { result ≡ (branched code.now self.old i taken).stop }
-        ensures machine { self.new ≡ (branched code.now self.old i taken).machine }
+        ensures stop { (n : ℕ) (bytes : List ℕ) → result ≡ (branched code.now (machine_of n self.old bytes) i taken).stop }
+        ensures machine { (n : ℕ) (bytes : List ℕ) → machine_of n self.new bytes ≡ (branched code.now (machine_of n self.old bytes) i taken).machine }
     {
         if !taken {
             return self.pass(i);
@@ -155,11 +154,17 @@ impl<const N: usize> Machine<N> {
 
     // What lies at a place, if all of it lies in one part of memory.
     #[inline(always)]
-    pub(crate) fn load_from(&self, code: &Code, size: Size, at: u64) -> Option<u64>
-        ensures { result ≡ loaded_from code.now self.now size at }
+    pub(crate) fn load_from<const N: usize>(
+        &self,
+        code: &Code,
+        state: &[u8; N],
+        size: Size,
+        at: u64,
+    ) -> Option<u64>
+        ensures { result ≡ loaded_from code.now (machine_of N self.now state.now) size at }
     {
         if at >= STATE {
-            number_within(&self.state, at - STATE, size)
+            number_within(state, at - STATE, size)
         } else if at >= STATE - STACK as u64 {
             number_within(&self.stack, at - (STATE - STACK as u64), size)
         } else if at >= DATA {
@@ -173,11 +178,18 @@ impl<const N: usize> Machine<N> {
 
     // Puts a number from memory into a register.
     #[inline(always)]
-    fn load(&mut self, code: &Code, i: Instruction, at: u64, size: Size) -> Option<Stop>
-        ensures stop { result ≡ (loaded code.now self.old i size at).stop }
-        ensures machine { self.new ≡ (loaded code.now self.old i size at).machine }
+    fn load<const N: usize>(
+        &mut self,
+        code: &Code,
+        state: &[u8; N],
+        i: Instruction,
+        at: u64,
+        size: Size,
+    ) -> Option<Stop>
+        ensures stop { result ≡ (loaded code.now (machine_of N self.old state.now) i size at).stop }
+        ensures machine { machine_of N self.new state.now ≡ (loaded code.now (machine_of N self.old state.now) i size at).machine }
     {
-        match self.load_from(code, size, at) {
+        match self.load_from(code, state, size, at) {
             Some(v) => self.put(i, v),
             None => Some(Stop::Trapped(Trap::BadPlace)),
         }
@@ -185,11 +197,18 @@ impl<const N: usize> Machine<N> {
 
     // The same of a number with a sign.
     #[inline(always)]
-    fn load_signed(&mut self, code: &Code, i: Instruction, at: u64, size: Size) -> Option<Stop>
-        ensures stop { result ≡ (loaded_signed code.now self.old i size at).stop }
-        ensures machine { self.new ≡ (loaded_signed code.now self.old i size at).machine }
+    fn load_signed<const N: usize>(
+        &mut self,
+        code: &Code,
+        state: &[u8; N],
+        i: Instruction,
+        at: u64,
+        size: Size,
+    ) -> Option<Stop>
+        ensures stop { result ≡ (loaded_signed code.now (machine_of N self.old state.now) i size at).stop }
+        ensures machine { machine_of N self.new state.now ≡ (loaded_signed code.now (machine_of N self.old state.now) i size at).machine }
     {
-        match self.load_from(code, size, at) {
+        match self.load_from(code, state, size, at) {
             Some(v) => self.put(i, extended(size, v)),
             None => Some(Stop::Trapped(Trap::BadPlace)),
         }
@@ -197,15 +216,22 @@ impl<const N: usize> Machine<N> {
 
     // Puts a number into memory.
     #[inline(always)]
-    fn store(&mut self, i: Instruction, at: u64, v: u64, size: Size) -> Option<Stop>
-        ensures stop { result ≡ (stored_at self.old i size at v).stop }
-        ensures machine { self.new ≡ (stored_at self.old i size at v).machine }
+    fn store<const N: usize>(
+        &mut self,
+        state: &mut [u8; N],
+        i: Instruction,
+        at: u64,
+        v: u64,
+        size: Size,
+    ) -> Option<Stop>
+        ensures stop { result ≡ (stored_at (machine_of N self.old state.old) i size at v).stop }
+        ensures machine { machine_of N self.new state.new ≡ (stored_at (machine_of N self.old state.old) i size at v).machine }
     {
         if at >= STATE {
             if at - STATE > N as u64 || width(size) > N as u64 - (at - STATE) {
                 return Some(Stop::Trapped(Trap::BadPlace));
             }
-            store(&mut self.state, (at - STATE) as usize, size, v);
+            store(state, (at - STATE) as usize, size, v);
             return self.pass(i);
         }
         let base = STATE - STACK as u64;
@@ -218,9 +244,14 @@ impl<const N: usize> Machine<N> {
 
     // An instruction.
     #[inline(never)]
-    fn exec(&mut self, code: &Code, i: Instruction) -> Option<Stop>
-        ensures stop { result ≡ (exec_of code.now self.old i i.operation).stop }
-        ensures machine { self.new ≡ (exec_of code.now self.old i i.operation).machine }
+    fn exec<const N: usize>(
+        &mut self,
+        code: &Code,
+        state: &mut [u8; N],
+        i: Instruction,
+    ) -> Option<Stop>
+        ensures stop { result ≡ (exec_of code.now (machine_of N self.old state.old) i i.operation).stop }
+        ensures machine { machine_of N self.new state.new ≡ (exec_of code.now (machine_of N self.old state.old) i i.operation).machine }
     {
         let x = self.register(i.first);
         let y = self.register(i.second);
@@ -233,11 +264,11 @@ impl<const N: usize> Machine<N> {
                 self.jump(code, i, at - at % 2)
             }
             Effect::Branch(taken) => self.branch(code, i, taken),
-            Effect::Load(size) => self.load(code, i, x.wrapping_add(i.immediate), size),
+            Effect::Load(size) => self.load(code, state, i, x.wrapping_add(i.immediate), size),
             Effect::LoadSigned(size) => {
-                self.load_signed(code, i, x.wrapping_add(i.immediate), size)
+                self.load_signed(code, state, i, x.wrapping_add(i.immediate), size)
             }
-            Effect::Store(size) => self.store(i, x.wrapping_add(i.immediate), y, size),
+            Effect::Store(size) => self.store(state, i, x.wrapping_add(i.immediate), y, size),
             Effect::Pass => self.pass(i),
             Effect::Call => Some(Stop::Called),
             Effect::Fail(trap) => Some(Stop::Trapped(trap)),
@@ -246,12 +277,12 @@ impl<const N: usize> Machine<N> {
 
     // The instruction at the machine's place, or the end.
     #[inline]
-    fn step(&mut self, code: &Code) -> Option<Stop>
-        ensures stop { result ≡ (step_of code.now self.old).stop }
-        ensures machine { self.new ≡ (step_of code.now self.old).machine }
+    fn step<const N: usize>(&mut self, code: &Code, state: &mut [u8; N]) -> Option<Stop>
+        ensures stop { result ≡ (step_of code.now (machine_of N self.old state.old)).stop }
+        ensures machine { machine_of N self.new state.new ≡ (step_of code.now (machine_of N self.old state.old)).machine }
     {
         match fetch(code, self.place) {
-            Some(i) => self.exec(code, i),
+            Some(i) => self.exec(code, state, i),
             None => {
                 if self.place == RETURN {
                     Some(Stop::Ended)
@@ -263,15 +294,22 @@ impl<const N: usize> Machine<N> {
     }
 
     /// Makes at most `fuel` steps, each of one instruction, and stops earlier at a call, at the end, or where an instruction can't be
-    /// done. At `RETURN` it has ended, even if no step is left.
+    /// done. At `RETURN` it has ended, even if no step is left. The state is the bytes from `STATE` on.
+    ///
+    /// Each caller gives another number as `COPY`, and has a loop of steps of its own. A loop that they share makes a call for each step.
     #[inline(always)]
-    pub fn run(&mut self, code: &Code, fuel: u64) -> Outcome
-        ensures outcome { result ≡ (run_of code.now fuel self.old).outcome }
-        ensures machine { self.new ≡ (run_of code.now fuel self.old).machine }
+    pub fn run<const N: usize, const COPY: u8>(
+        &mut self,
+        code: &Code,
+        state: &mut [u8; N],
+        fuel: u64,
+    ) -> Outcome
+        ensures outcome { result ≡ (run_of code.now fuel (machine_of N self.old state.old)).outcome }
+        ensures machine { machine_of N self.new state.new ≡ (run_of code.now fuel (machine_of N self.old state.old)).machine }
     {
         let mut left = fuel;
         'steps: while left > 0 {
-            let sprint = self.sprint(code, left);
+            let sprint = self.sprint::<N, COPY>(code, state, left);
             left = sprint.left;
             if sprint.called {
                 return Outcome {
@@ -281,7 +319,7 @@ impl<const N: usize> Machine<N> {
             }
             if left > 0 {
                 left -= 1;
-                if let Some(stop) = self.step(code) {
+                if let Some(stop) = self.step(code, state) {
                     return Outcome { stop, left };
                 }
             }
@@ -297,7 +335,7 @@ impl<const N: usize> Machine<N> {
     /// Answers the call at which the machine stopped: puts the value into register a0 (x10), and goes on behind the ECALL.
     #[inline(always)]
     pub fn answer(&mut self, value: u64)
-        ensures { self.new ≡ answered self.old value }
+        ensures { self.new ≡ core_of (answered (bare self.old) value) }
     {
         self.set(10, value);
         self.place = self.place.wrapping_add(4);

@@ -1,8 +1,9 @@
 //! Many steps in a row, in which the machine's place is the index of an instruction.
 
-ghost use Rattle.std.specs.Prelude.{◌≡◌, ◌+◌, ◌-◌, ◌%◌, ◌<◌, ◌≤◌, length, slice_index};
+ghost use Rattle.std.specs.Prelude.{◌≡◌, ℕ, List, ◌+◌, ◌-◌, ◌%◌, ◌<◌, ◌≤◌, length, slice_index};
 ghost use Rattle.vt_riscv.specs.promise.Arithmetic.{sum};
 ghost use Rattle.vt_riscv.specs.inside.Readiness.{place_at, head_at, instruction_at, IsSmall};
+ghost use Rattle.vt_riscv.specs.inside.Cores.{machine_of, bare, core_of};
 ghost use Rattle.vt_riscv.specs.promise.Steps.{register_of, with_register, behind, put_in, branched, jumped, loaded, loaded_signed, stored_at, exec_of, run_of};
 ghost use Rattle.vt_riscv.specs.inside.Sprints.{at_index, seen, due, rest_of, IsAim};
 
@@ -10,7 +11,7 @@ use crate::effect::{Effect, effect_of};
 use crate::machine::is_misaligned;
 use crate::memory::{Size, extended, store, width};
 use crate::ready::{Head, index_of, place_at, place_of};
-use crate::{Code, Machine, STACK, STATE};
+use crate::{Code, Core, STACK, STATE};
 
 /// How the machine goes on after a ready instruction.
 #[derive(Clone, Copy)]
@@ -43,12 +44,12 @@ pub(crate) struct Sprint {
     pub called: bool,
 }
 
-impl<const N: usize> Machine<N> {
+impl Core {
     // What a register that exists holds.
     #[inline(always)]
     fn read(&self, r: u8) -> u64
         requires { r < 32 }
-        ensures { result ≡ register_of self.now r }
+        ensures { result ≡ register_of (bare self.now) r }
     {
         self.registers[r as usize]
     }
@@ -57,7 +58,7 @@ impl<const N: usize> Machine<N> {
     #[inline(always)]
     fn write(&mut self, r: u8, v: u64)
         requires { r < 32 }
-        ensures { self.new ≡ with_register self.old r v }
+        ensures { self.new ≡ core_of (with_register (bare self.old) r v) }
     {
         self.registers[r as usize] = v;
         self.registers[0] = 0;
@@ -68,7 +69,7 @@ impl<const N: usize> Machine<N> {
     fn link(&mut self, heads: &[Head], here: Here)
         requires within { here.at < length heads.now }
         requires small { IsSmall (head_at heads.now here.at) }
-        ensures { self.new ≡ with_register self.old (head_at heads.now here.at).destination (behind (at_index self.old heads.now here.at) (instruction_at heads.now here.immediate here.at)) }
+        ensures { self.new ≡ core_of (with_register (bare self.old) (head_at heads.now here.at).destination (behind (at_index (bare self.old) heads.now here.at) (instruction_at heads.now here.immediate here.at))) }
     {
         let place = heads[here.at].place;
         let length = match heads.get(here.at + 1) {
@@ -84,28 +85,17 @@ impl<const N: usize> Machine<N> {
     fn put_ready(&mut self, heads: &[Head], here: Here, v: u64) -> Go
         requires within { here.at < length heads.now }
         requires small { IsSmall (head_at heads.now here.at) }
-        ensures { seen self.new heads.now here.immediate here.at result ≡ due self.old (put_in (at_index self.old heads.now here.at) (instruction_at heads.now here.immediate here.at) v) result }
+        ensures { (n : ℕ) (bytes : List ℕ) → seen (machine_of n self.new bytes) heads.now here.immediate here.at result ≡ due (machine_of n self.old bytes) (put_in (at_index (machine_of n self.old bytes) heads.now here.at) (instruction_at heads.now here.immediate here.at) v) result }
     {
         self.write(heads[here.at].destination, v);
         Go::Next
     }
 
     #[inline(always)]
-    fn load_ready(&mut self, code: &Code, heads: &[Head], here: Here, x: u64, size: Size) -> Go
-        requires within { here.at < length heads.now }
-        requires small { IsSmall (head_at heads.now here.at) }
-        ensures { seen self.new heads.now here.immediate here.at result ≡ due self.old (loaded code.now (at_index self.old heads.now here.at) (instruction_at heads.now here.immediate here.at) size (sum x here.immediate)) result }
-    {
-        match self.load_from(code, size, x.wrapping_add(here.immediate)) {
-            Some(v) => self.put_ready(heads, here, v),
-            None => Go::Not,
-        }
-    }
-
-    #[inline(always)]
-    fn load_signed_ready(
+    fn load_ready<const N: usize>(
         &mut self,
         code: &Code,
+        state: &[u8; N],
         heads: &[Head],
         here: Here,
         x: u64,
@@ -113,25 +103,53 @@ impl<const N: usize> Machine<N> {
     ) -> Go
         requires within { here.at < length heads.now }
         requires small { IsSmall (head_at heads.now here.at) }
-        ensures { seen self.new heads.now here.immediate here.at result ≡ due self.old (loaded_signed code.now (at_index self.old heads.now here.at) (instruction_at heads.now here.immediate here.at) size (sum x here.immediate)) result }
+        ensures { seen (machine_of N self.new state.now) heads.now here.immediate here.at result ≡ due (machine_of N self.old state.now) (loaded code.now (at_index (machine_of N self.old state.now) heads.now here.at) (instruction_at heads.now here.immediate here.at) size (sum x here.immediate)) result }
     {
-        match self.load_from(code, size, x.wrapping_add(here.immediate)) {
+        match self.load_from(code, state, size, x.wrapping_add(here.immediate)) {
+            Some(v) => self.put_ready(heads, here, v),
+            None => Go::Not,
+        }
+    }
+
+    #[inline(always)]
+    fn load_signed_ready<const N: usize>(
+        &mut self,
+        code: &Code,
+        state: &[u8; N],
+        heads: &[Head],
+        here: Here,
+        x: u64,
+        size: Size,
+    ) -> Go
+        requires within { here.at < length heads.now }
+        requires small { IsSmall (head_at heads.now here.at) }
+        ensures { seen (machine_of N self.new state.now) heads.now here.immediate here.at result ≡ due (machine_of N self.old state.now) (loaded_signed code.now (at_index (machine_of N self.old state.now) heads.now here.at) (instruction_at heads.now here.immediate here.at) size (sum x here.immediate)) result }
+    {
+        match self.load_from(code, state, size, x.wrapping_add(here.immediate)) {
             Some(v) => self.put_ready(heads, here, extended(size, v)),
             None => Go::Not,
         }
     }
 
     #[inline(always)]
-    fn store_ready(&mut self, heads: &[Head], here: Here, x: u64, v: u64, size: Size) -> Go
+    fn store_ready<const N: usize>(
+        &mut self,
+        state: &mut [u8; N],
+        heads: &[Head],
+        here: Here,
+        x: u64,
+        v: u64,
+        size: Size,
+    ) -> Go
         requires within { here.at < length heads.now }
-        ensures { seen self.new heads.now here.immediate here.at result ≡ due self.old (stored_at (at_index self.old heads.now here.at) (instruction_at heads.now here.immediate here.at) size (sum x here.immediate) v) result }
+        ensures { seen (machine_of N self.new state.new) heads.now here.immediate here.at result ≡ due (machine_of N self.old state.old) (stored_at (at_index (machine_of N self.old state.old) heads.now here.at) (instruction_at heads.now here.immediate here.at) size (sum x here.immediate) v) result }
     {
         let place = x.wrapping_add(here.immediate);
         if place >= STATE {
             if place - STATE > N as u64 || width(size) > N as u64 - (place - STATE) {
                 return Go::Not;
             }
-            store(&mut self.state, (place - STATE) as usize, size, v);
+            store(state, (place - STATE) as usize, size, v);
             return Go::Next;
         }
         let base = STATE - STACK as u64;
@@ -154,7 +172,7 @@ impl<const N: usize> Machine<N> {
         requires within { here.at < length heads.now }
         requires targets { here.at < length targets.now }
         requires aim { IsAim code.now heads.now here.immediate (slice_index targets.now here.at) here.at }
-        ensures { seen self.new heads.now here.immediate here.at result ≡ due self.old (branched code.now (at_index self.old heads.now here.at) (instruction_at heads.now here.immediate here.at) taken) result }
+        ensures { (n : ℕ) (bytes : List ℕ) → seen (machine_of n self.new bytes) heads.now here.immediate here.at result ≡ due (machine_of n self.old bytes) (branched code.now (at_index (machine_of n self.old bytes) heads.now here.at) (instruction_at heads.now here.immediate here.at) taken) result }
     {
         if !taken {
             return Go::Next;
@@ -172,7 +190,7 @@ impl<const N: usize> Machine<N> {
         requires small { IsSmall (head_at heads.now here.at) }
         requires targets { here.at < length targets.now }
         requires aim { IsAim code.now heads.now here.immediate (slice_index targets.now here.at) here.at }
-        ensures { seen self.new heads.now here.immediate here.at result ≡ due self.old (jumped code.now (at_index self.old heads.now here.at) (instruction_at heads.now here.immediate here.at) (sum (place_at (head_at heads.now here.at).place) here.immediate)) result }
+        ensures { (n : ℕ) (bytes : List ℕ) → seen (machine_of n self.new bytes) heads.now here.immediate here.at result ≡ due (machine_of n self.old bytes) (jumped code.now (at_index (machine_of n self.old bytes) heads.now here.at) (instruction_at heads.now here.immediate here.at) (sum (place_at (head_at heads.now here.at).place) here.immediate)) result }
     {
         let target = targets[here.at];
         if target as usize >= heads.len() {
@@ -186,7 +204,7 @@ impl<const N: usize> Machine<N> {
     fn jump_ready(&mut self, code: &Code, heads: &[Head], here: Here, x: u64) -> Go
         requires within { here.at < length heads.now }
         requires small { IsSmall (head_at heads.now here.at) }
-        ensures { seen self.new heads.now here.immediate here.at result ≡ due self.old (jumped code.now (at_index self.old heads.now here.at) (instruction_at heads.now here.immediate here.at) (sum x here.immediate - sum x here.immediate % 2)) result }
+        ensures { (n : ℕ) (bytes : List ℕ) → seen (machine_of n self.new bytes) heads.now here.immediate here.at result ≡ due (machine_of n self.old bytes) (jumped code.now (at_index (machine_of n self.old bytes) heads.now here.at) (instruction_at heads.now here.immediate here.at) (sum x here.immediate - sum x here.immediate % 2)) result }
     {
         let place = x.wrapping_add(here.immediate);
         let to = place - place % 2;
@@ -199,12 +217,19 @@ impl<const N: usize> Machine<N> {
 
     // An instruction, if it can be done. A size has an arm of its own, so that the machine's code for it knows the size.
     #[inline(always)]
-    fn exec_ready(&mut self, code: &Code, heads: &[Head], targets: &[u32], here: Here) -> Go
+    fn exec_ready<const N: usize, const COPY: u8>(
+        &mut self,
+        code: &Code,
+        state: &mut [u8; N],
+        heads: &[Head],
+        targets: &[u32],
+        here: Here,
+    ) -> Go
         requires within { here.at < length heads.now }
         requires small { IsSmall (head_at heads.now here.at) }
         requires targets { here.at < length targets.now }
         requires aim { IsAim code.now heads.now here.immediate (slice_index targets.now here.at) here.at }
-        ensures { seen self.new heads.now here.immediate here.at result ≡ due self.old (exec_of code.now (at_index self.old heads.now here.at) (instruction_at heads.now here.immediate here.at) (head_at heads.now here.at).operation) result }
+        ensures { seen (machine_of N self.new state.new) heads.now here.immediate here.at result ≡ due (machine_of N self.old state.old) (exec_of code.now (at_index (machine_of N self.old state.old) heads.now here.at) (instruction_at heads.now here.immediate here.at) (head_at heads.now here.at).operation) result }
     {
         let head = &heads[here.at];
         let x = self.read(head.first);
@@ -220,12 +245,20 @@ impl<const N: usize> Machine<N> {
             Effect::Jump => self.link_ready(code, heads, targets, here),
             Effect::JumpTo => self.jump_ready(code, heads, here, x),
             Effect::Branch(taken) => self.branch_ready(code, heads, targets, here, taken),
-            Effect::Load(Size::Byte) => self.load_ready(code, heads, here, x, Size::Byte),
-            Effect::Load(Size::Half) => self.load_ready(code, heads, here, x, Size::Half),
-            Effect::Load(Size::Word) => self.load_ready(code, heads, here, x, Size::Word),
-            Effect::Load(Size::Double) => self.load_ready(code, heads, here, x, Size::Double),
+            Effect::Load(Size::Byte) => self.load_ready(code, state, heads, here, x, Size::Byte),
+            Effect::Load(Size::Half) => self.load_ready(code, state, heads, here, x, Size::Half),
+            Effect::Load(Size::Word) => self.load_ready(code, state, heads, here, x, Size::Word),
+            Effect::Load(Size::Double) => self.load_ready(
+                code,
+                state,
+                heads,
+                here,
+                x,
+                Size::Double,
+            ),
             Effect::LoadSigned(Size::Byte) => self.load_signed_ready(
                 code,
+                state,
                 heads,
                 here,
                 x,
@@ -233,6 +266,7 @@ impl<const N: usize> Machine<N> {
             ),
             Effect::LoadSigned(Size::Half) => self.load_signed_ready(
                 code,
+                state,
                 heads,
                 here,
                 x,
@@ -240,6 +274,7 @@ impl<const N: usize> Machine<N> {
             ),
             Effect::LoadSigned(Size::Word) => self.load_signed_ready(
                 code,
+                state,
                 heads,
                 here,
                 x,
@@ -247,15 +282,16 @@ impl<const N: usize> Machine<N> {
             ),
             Effect::LoadSigned(Size::Double) => self.load_signed_ready(
                 code,
+                state,
                 heads,
                 here,
                 x,
                 Size::Double,
             ),
-            Effect::Store(Size::Byte) => self.store_ready(heads, here, x, y, Size::Byte),
-            Effect::Store(Size::Half) => self.store_ready(heads, here, x, y, Size::Half),
-            Effect::Store(Size::Word) => self.store_ready(heads, here, x, y, Size::Word),
-            Effect::Store(Size::Double) => self.store_ready(heads, here, x, y, Size::Double),
+            Effect::Store(Size::Byte) => self.store_ready(state, heads, here, x, y, Size::Byte),
+            Effect::Store(Size::Half) => self.store_ready(state, heads, here, x, y, Size::Half),
+            Effect::Store(Size::Word) => self.store_ready(state, heads, here, x, y, Size::Word),
+            Effect::Store(Size::Double) => self.store_ready(state, heads, here, x, y, Size::Double),
             Effect::Call => Go::Called,
             Effect::Pass => Go::Next,
             Effect::Fail(_) => Go::Not,
@@ -263,10 +299,15 @@ impl<const N: usize> Machine<N> {
     }
 
     /// Makes steps up to a call, up to an instruction that has to be looked at more closely, or until few are left.
-    // It stands apart, since it alone calls `exec_ready`: with two callers that would stay a call for each step.
-    #[inline(never)]
-    pub(crate) fn sprint(&mut self, code: &Code, fuel: u64) -> Sprint
-        ensures run { run_of code.now fuel self.old ≡ rest_of code.now self.new result.left result.called }
+    // `exec_ready` has one caller in each copy. With more it would stay a call for each step.
+    #[inline(always)]
+    pub(crate) fn sprint<const N: usize, const COPY: u8>(
+        &mut self,
+        code: &Code,
+        state: &mut [u8; N],
+        fuel: u64,
+    ) -> Sprint
+        ensures run { run_of code.now fuel (machine_of N self.old state.old) ≡ rest_of code.now (machine_of N self.new state.new) result.left result.called }
         ensures left { result.left ≤ fuel }
     {
         let heads = code.ready.heads.as_slice();
@@ -295,7 +336,7 @@ impl<const N: usize> Machine<N> {
                 at,
                 immediate: immediates[at],
             };
-            let to = match self.exec_ready(code, heads, targets, here) {
+            let to = match self.exec_ready::<N, COPY>(code, state, heads, targets, here) {
                 Go::Next => {
                     at += 1;
                     continue 'steps;

@@ -18,13 +18,12 @@ use Rattle.vt_guest.specs.declared.trap.Reason.TheVariants.{BadCall, TooMany, Ba
 use Rattle.vt_guest.specs.declared.calls.Handler.{Handler}
 use Rattle.vt_guest.specs.declared.calls.Handler.TheVariants.{Start, Forward, Finish}
 use Rattle.vt_guest.specs.declared.calls.Host.{Host}
-use Rattle.vt_guest.specs.declared.calls.Handling.{Handling}
 use Rattle.vt_guest.specs.declared.calls.Next.{Next}
 use Rattle.vt_guest.specs.declared.calls.Next.TheVariants.{On, Draw, Send, Emit, Ended, Trapped}
 use Rattle.vt_guest.specs.declared.process.Words.{Words}
 use Rattle.vt_guest.specs.declared.process.Process.{Process}
 use Rattle.vt_guest.specs.declared.guest.Guest.{Guest}
-use Rattle.vt_guest.specs.promise.Calls.{Turn, most_draws, most_sends, most_records, unless, trapped, register, answers, passed, draws, below_of, may_send, request_of, send_of, note_of, emit_of, lps_of, call_of, low, answered_by}
+use Rattle.vt_guest.specs.promise.Calls.{Handling, Turn, most_draws, most_sends, most_records, unless, trapped, register, answers, passed, draws, below_of, may_send, request_of, send_of, note_of, emit_of, lps_of, call_of, low, answered_by}
 use Rattle.vt_guest.specs.promise.Handling.{Handled, Rest, begun, stopped, turn_of, fails, followed, handled}
 use Rattle.vt_guest.specs.promise.Handlers.{alarm, start_gives, trap_gives, event_gives, host_of, no_words, start_run, event_run, guest_start, guest_forward}
 

@@ -4,6 +4,7 @@ use Rattle.std.specs.Prelude.{ℕ, ◌+◌, ◌%◌, ◌^◌, Bool, true, false,
 use Rattle.vt_stream.specs.promise.Drawn.{scaled}
 use Rattle.vt_model.specs.declared.limits.TheConstants.{MAX_DRAWS, MAX_SENDS, MAX_RECORDS}
 use Rattle.vt_model.specs.promise.Sends.{SendRequest, RecordRequest}
+use Rattle.vt_riscv.specs.promise.Machines.{Machine}
 use Rattle.vt_riscv.specs.promise.Steps.{answered}
 use Rattle.vt_guest.specs.declared.trap.TheConstants.{TRAP}
 use Rattle.vt_guest.specs.declared.trap.Reason.{Reason}
@@ -11,7 +12,6 @@ use Rattle.vt_guest.specs.declared.trap.Reason.TheVariants.{BadCall, BadSend}
 use Rattle.vt_guest.specs.declared.calls.Handler.{Handler}
 use Rattle.vt_guest.specs.declared.calls.Handler.TheVariants.{Start, Forward, Finish}
 use Rattle.vt_guest.specs.declared.calls.Host.{Host}
-use Rattle.vt_guest.specs.declared.calls.Handling.{Handling}
 use Rattle.vt_guest.specs.declared.calls.Next.{Next}
 use Rattle.vt_guest.specs.declared.calls.Next.TheVariants.{On, Draw, Send, Emit, Trapped}
 use Rattle.vt_guest.specs.declared.process.Words.{Words}
@@ -35,6 +35,12 @@ most_records Finish = 0
 -- the low 32 bits
 abbrev pub low : ℕ → ℕ
 low x = x % 2 ^ 32
+
+-- a handler under way: its machine, how many steps it may still make, and how many words it has drawn so far
+pub record Handling (N : ℕ) : Type 0 where
+  pub machine : Machine N
+  pub left : ℕ
+  pub drawn : ℕ
 
 -- how a handler goes on, and what it has come to
 pub record Turn (N : ℕ) : Type 0 where

@@ -8,13 +8,12 @@ use Rattle.vt_guest.specs.declared.trap.Reason.{Reason}
 use Rattle.vt_guest.specs.declared.calls.Handler.{Handler}
 use Rattle.vt_guest.specs.declared.calls.Handler.TheVariants.{Start, Forward, Finish}
 use Rattle.vt_guest.specs.declared.calls.Host.{Host}
-use Rattle.vt_guest.specs.declared.calls.Handling.{Handling}
 use Rattle.vt_guest.specs.declared.process.Words.{Words}
 use Rattle.vt_guest.specs.declared.process.Process.{Process}
 use Rattle.vt_guest.specs.declared.guest.Program.{Program}
 use Rattle.vt_guest.specs.declared.guest.Guest.{Guest}
 use Rattle.vt_guest.specs.promise.Traps.{trap_value}
-use Rattle.vt_guest.specs.promise.Calls.{register}
+use Rattle.vt_guest.specs.promise.Calls.{Handling, register}
 use Rattle.vt_guest.specs.promise.Handling.{Handled, begun, handled}
 
 -- what a handler is told: `finish` isn't told the number of processes

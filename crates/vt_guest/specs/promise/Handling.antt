@@ -9,12 +9,11 @@ use Rattle.vt_riscv.specs.promise.Steps.{run_of}
 use Rattle.vt_guest.specs.declared.trap.Reason.{Reason}
 use Rattle.vt_guest.specs.declared.trap.Reason.TheVariants.{TooMany, Spent}
 use Rattle.vt_guest.specs.declared.calls.Host.{Host}
-use Rattle.vt_guest.specs.declared.calls.Handling.{Handling}
 use Rattle.vt_guest.specs.declared.calls.Next.{Next}
 use Rattle.vt_guest.specs.declared.calls.Next.TheVariants.{On, Draw, Send, Emit, Ended, Trapped}
 use Rattle.vt_guest.specs.declared.process.Words.{Words}
 use Rattle.vt_guest.specs.promise.Traps.{reason_of}
-use Rattle.vt_guest.specs.promise.Calls.{Turn, trapped, most_draws, most_sends, most_records, passed, request_of, note_of, call_of, answered_by}
+use Rattle.vt_guest.specs.promise.Calls.{Handling, Turn, trapped, most_draws, most_sends, most_records, passed, request_of, note_of, call_of, answered_by}
 
 -- the stack at the beginning of a handler
 abbrev pub blank_stack : List ℕ

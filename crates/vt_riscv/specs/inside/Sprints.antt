@@ -2,7 +2,7 @@
 use Rattle.std.specs.Prelude.{◌≡◌, ℕ, ◌<◌, Bool, true, false, List, length}
 use Rattle.vt_riscv.specs.declared.ready.Head.{Head}
 use Rattle.vt_riscv.specs.declared.code.Code.{Code}
-use Rattle.vt_riscv.specs.declared.machine.Machine.{Machine}
+use Rattle.vt_riscv.specs.promise.Machines.{Machine}
 use Rattle.vt_riscv.specs.declared.machine.Stop.TheVariants.{Called}
 use Rattle.vt_riscv.specs.declared.sprint.Go.{Go}
 use Rattle.vt_riscv.specs.declared.sprint.Go.TheVariants as go

@@ -5,7 +5,7 @@ use Rattle.vt_riscv.specs.declared.memory.Size.{Size}
 use Rattle.vt_riscv.specs.declared.instruction.Operation.{Operation}
 use Rattle.vt_riscv.specs.declared.instruction.Instruction.{Instruction}
 use Rattle.vt_riscv.specs.declared.code.Code.{Code}
-use Rattle.vt_riscv.specs.declared.machine.Machine.{Machine}
+use Rattle.vt_riscv.specs.promise.Machines.{Machine}
 use Rattle.vt_riscv.specs.declared.machine.Trap.{Trap}
 use Rattle.vt_riscv.specs.declared.machine.Trap.TheVariants.{BadJump, BadInstruction, BadPlace, Breakpoint}
 use Rattle.vt_riscv.specs.declared.machine.Stop.{Stop}

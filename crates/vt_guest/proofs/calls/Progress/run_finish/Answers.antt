@@ -3,25 +3,26 @@ use Rattle.vt_guest.specs.declared.trap.Reason.TheVariants.{TooMany}
 use Rattle.vt_guest.specs.declared.calls.Next.{Next}
 use Rattle.vt_guest.specs.declared.calls.Next.TheVariants.{On, Draw, Send, Emit, Ended, Trapped}
 use Rattle.vt_guest.specs.promise.Calls.{most_draws, most_sends, most_records}
+use Rattle.vt_guest.specs.inside.Progresses.{handling_of}
 use Rattle.vt_guest.specs.promise.Handling.{Handled, fails, followed, handled}
 use Rattle.vt_guest.proofs.RunLemmas.{handled-as, handled-none, without_room}
-use Rattle.vt_guest.proofs.calls.Handling.run_finish.Goals.{After-turn}
-use Rattle.vt_guest.proofs.calls.Handling.run_finish.Given.{Over}
-use Rattle.vt_guest.proofs.calls.Handling.run_finish.Goals as goal
+use Rattle.vt_guest.proofs.calls.Progress.run_finish.Goals.{After-turn}
+use Rattle.vt_guest.proofs.calls.Progress.run_finish.Given.{Over}
+use Rattle.vt_guest.proofs.calls.Progress.run_finish.Goals as goal
 
 -- the run goes on as its turn says
 turned : (g : Over) (c : After-turn g) (was : Next) → c.turn.result ≡ was → (words : ℕ → ℕ)
-    → followed (handled c.args.code.now c.args.host words (c.calls.calls - 1)) c.args.host words was c.turn.new.self [] [] ≡ handled c.args.code.now c.args.host words c.args.self.now.left c.args.self.now [] []
+    → followed (handled c.args.code.now c.args.host words (c.calls.calls - 1)) c.args.host words was (handling_of g.row.SIZE c.turn.new.self c.turn.new.state) [] [] ≡ handled c.args.code.now c.args.host words c.args.self.now.left (handling_of g.row.SIZE c.args.self.now c.args.state.now) [] []
 turned g c was is words =
     let more : c.calls.calls ≡ suc (c.calls.calls - 1) = omega arith in
-    sym (handled-as c.args.code.now c.args.host words [] [] c.calls.calls (c.calls.calls - 1) c.calls.self c.turn.new.self c.turn.result was more c.turn.ensures.next c.turn.ensures.handling is) ∙ c.calls.invariant words
+    sym (handled-as c.args.code.now c.args.host words [] [] c.calls.calls (c.calls.calls - 1) (handling_of g.row.SIZE c.calls.self c.calls.state) (handling_of g.row.SIZE c.turn.new.self c.turn.new.state) c.turn.result was more c.turn.ensures.next c.turn.ensures.handling is) ∙ c.calls.invariant words
 
 pub calls-preserved : goal.calls-preserved
 calls-preserved g c = λ words. turned g (goal.at.calls-preserved g c).After-turn On c.in-On.is words
 
 -- a `finish` that draws, sends or records does too much
 too_many : (g : Over) (c : After-turn g) → (c.turn.result ≡ Draw) ⊎ ((c.turn.result ≡ Send) ⊎ (c.turn.result ≡ Emit)) → (words : ℕ → ℕ)
-    → fails TooMany c.turn.new.self [] [] ≡ handled c.args.code.now c.args.host words c.args.self.now.left c.args.self.now [] []
+    → fails TooMany (handling_of g.row.SIZE c.turn.new.self c.turn.new.state) [] [] ≡ handled c.args.code.now c.args.host words c.args.self.now.left (handling_of g.row.SIZE c.args.self.now c.args.state.now) [] []
 too_many g c next words =
     let draws : most_draws c.args.host.handler ≡ 0 = ap most_draws c.requires in
     let sends : most_sends c.args.host.handler ≡ 0 = ap most_sends c.requires in
@@ -53,5 +54,5 @@ returns-in-Trapped g c =
 pub returns : goal.returns
 returns g c =
     let none : c.calls.calls ≡ 0 = omega arith in
-    let is = λ (words : ℕ → ℕ). sym (handled-none c.args.code.now c.args.host words [] [] c.calls.calls c.calls.self none) ∙ c.calls.invariant words in
+    let is = λ (words : ℕ → ℕ). sym (handled-none c.args.code.now c.args.host words [] [] c.calls.calls (handling_of g.row.SIZE c.calls.self c.calls.state) none) ∙ c.calls.invariant words in
     record { end = λ words. ap (λ (r : Handled _). r.end) (is words); handling = λ words. ap (λ (r : Handled _). r.handling) (is words) }

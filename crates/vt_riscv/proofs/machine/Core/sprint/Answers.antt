@@ -1,11 +1,12 @@
 use Rattle.std.proofs.Common.{rules, ◌≡◌, ℕ, ◌+◌, ◌-◌, ◌<◌, ◌≤◌, ◌∙◌, length, slice_index, sym, ap, arith}
 use Rattle.vt_riscv.specs.declared.machine.Stop.TheVariants.{Called}
 use Rattle.vt_riscv.specs.inside.Readiness.{place_at, head_at}
+use Rattle.vt_riscv.specs.inside.Cores.{machine_of}
 use Rattle.vt_riscv.specs.promise.Steps.{run_of}
 use Rattle.vt_riscv.specs.inside.Sprints.{at_index}
 use Rattle.vt_riscv.proofs.SprintLemmas.{are_ready, aim_there, followed_here, run-next, run-at, run-to, run-call}
-use Rattle.vt_riscv.proofs.machine.Machine.sprint.Goals as goal
-use Rattle.vt_riscv.proofs.machine.Machine.sprint.Goals.{in-At, in-To+in-Some-index_of}
+use Rattle.vt_riscv.proofs.machine.Core.sprint.Goals as goal
+use Rattle.vt_riscv.proofs.machine.Core.sprint.Goals.{in-At, in-To+in-Some-index_of}
 
 pub exec_ready-requires : goal.exec_ready-requires
 exec_ready-requires g c =
@@ -24,14 +25,15 @@ steps-preserved-in-Next g c =
     let immediates = c.as_slice-immediates.result.now in
     let are = are_ready code heads immediates c.as_slice-targets.result.now c.as_slice-heads.ensures.value c.as_slice-immediates.ensures.value c.as_slice-targets.ensures.value in
     let k = c.steps.at in
-    let n = c.exec_ready.new.self in
+    let m = machine_of g.row.N c.steps.self c.steps.state in
+    let n = machine_of g.row.N c.exec_ready.new.self c.exec_ready.new.state in
     let is = are.each k c.steps.invariant.within in
     let left = c.steps.spare + (length heads - k) in
     let some : 0 < left = omega (arith, c.steps.invariant.within) in
     let one : left - 1 ≡ c.steps.spare + (length heads - (k + 1)) = omega (arith, c.steps.invariant.within) in
-    let f = followed_here code heads (slice_index immediates k) k c.steps.self n c.exec_ready.result is c.exec_ready.ensures c.in-Next.is in
+    let f = followed_here code heads (slice_index immediates k) k m n c.exec_ready.result is c.exec_ready.ensures c.in-Next.is in
     record {
-      run = c.steps.invariant.run ∙ run-next code heads (slice_index immediates k) k c.steps.self n c.exec_ready.result is c.exec_ready.ensures left some c.in-Next.is
+      run = c.steps.invariant.run ∙ run-next code heads (slice_index immediates k) k m n c.exec_ready.result is c.exec_ready.ensures left some c.in-Next.is
           ∙ ap (λ (l : ℕ). run_of code l (at_index n heads (k + 1))) one;
       within = f.next;
       few = omega (arith, one, c.steps.invariant.few);
@@ -44,10 +46,12 @@ returns-in_default-index_of-clause-run g c =
     let immediates = c.as_slice-immediates.result.now in
     let are = are_ready code heads immediates c.as_slice-targets.result.now c.as_slice-heads.ensures.value c.as_slice-immediates.ensures.value c.as_slice-targets.ensures.value in
     let k = c.steps.at in
+    let m = machine_of g.row.N c.steps.self c.steps.state in
+    let n = machine_of g.row.N c.exec_ready.new.self c.exec_ready.new.state in
     let left = c.steps.spare + (length heads - k) in
     let some : 0 < left = omega (arith, c.steps.invariant.within) in
     c.steps.invariant.run
-    ∙ run-to code heads (slice_index immediates k) k c.steps.self c.exec_ready.new.self c.exec_ready.result (are.each k c.steps.invariant.within) c.exec_ready.ensures left c.in-To.place some c.in-To.is
+    ∙ run-to code heads (slice_index immediates k) k m n c.exec_ready.result (are.each k c.steps.invariant.within) c.exec_ready.ensures left c.in-To.place some c.in-To.is
 
 pub returns-in-Called-clause-run : goal.returns-in-Called-clause-run
 returns-in-Called-clause-run g c =
@@ -56,11 +60,13 @@ returns-in-Called-clause-run g c =
     let immediates = c.as_slice-immediates.result.now in
     let are = are_ready code heads immediates c.as_slice-targets.result.now c.as_slice-heads.ensures.value c.as_slice-immediates.ensures.value c.as_slice-targets.ensures.value in
     let k = c.steps.at in
+    let m = machine_of g.row.N c.steps.self c.steps.state in
+    let n = machine_of g.row.N c.exec_ready.new.self c.exec_ready.new.state in
     let left = c.steps.spare + (length heads - k) in
     let some : 0 < left = omega (arith, c.steps.invariant.within) in
     c.steps.invariant.run
-    ∙ run-call code heads (slice_index immediates k) k c.steps.self c.exec_ready.new.self c.exec_ready.result (are.each k c.steps.invariant.within) c.exec_ready.ensures left some c.in-Called.is
-    ∙ (λ j. record { outcome = record { stop = Called; left = left - 1 }; machine = record c.exec_ready.new.self { place = sym c.place_of-self.ensures j } })
+    ∙ run-call code heads (slice_index immediates k) k m n c.exec_ready.result (are.each k c.steps.invariant.within) c.exec_ready.ensures left some c.in-Called.is
+    ∙ (λ j. record { outcome = record { stop = Called; left = left - 1 }; machine = record n { place = sym c.place_of-self.ensures j } })
 
 pub returns-then-most-eq0-clause-run : goal.returns-then-most-eq0-clause-run
 returns-then-most-eq0-clause-run g c =
@@ -70,15 +76,16 @@ returns-then-most-eq0-clause-run g c =
     let are = are_ready code heads immediates c.as_slice-targets.result.now c.as_slice-heads.ensures.value c.as_slice-immediates.ensures.value c.as_slice-targets.ensures.value in
     let k = c.steps.at in
     let is = are.each k c.steps.invariant.within in
-    let n = c.exec_ready.new.self in
+    let m = machine_of g.row.N c.steps.self c.steps.state in
+    let n = machine_of g.row.N c.exec_ready.new.self c.exec_ready.new.state in
     let left = c.steps.spare + (length heads - k) in
     let some : 0 < left = omega (arith, c.steps.invariant.within) in
-    let onto : run_of code left (at_index c.steps.self heads k) ≡ run_of code (left - 1) (at_index n heads c.match-exec_ready.to) = elim c.match-exec_ready.branch [
+    let onto : run_of code left (at_index m heads k) ≡ run_of code (left - 1) (at_index n heads c.match-exec_ready.to) = elim c.match-exec_ready.branch [
       | in-At w ↦ (
-          run-at code heads (slice_index immediates k) k c.steps.self n c.exec_ready.result is c.exec_ready.ensures left w.in-At.to some w.in-At.is
+          run-at code heads (slice_index immediates k) k m n c.exec_ready.result is c.exec_ready.ensures left w.in-At.to some w.in-At.is
           ∙ ap (λ (t : ℕ). run_of code (left - 1) (at_index n heads t)) (sym w.to-is))
       | in-To+in-Some-index_of w ↦ (
-          run-to code heads (slice_index immediates k) k c.steps.self n c.exec_ready.result is c.exec_ready.ensures left w.in-To.place some w.in-To.is
+          run-to code heads (slice_index immediates k) k m n c.exec_ready.result is c.exec_ready.ensures left w.in-To.place some w.in-To.is
           ∙ ap (λ (p : ℕ). run_of code (left - 1) (record n { place = p })) (sym w.in-Some-index_of.ensures.place ∙ ap (λ (t : ℕ). place_at (head_at heads t).place) (sym w.to-is)))
     ] in
     c.steps.invariant.run ∙ onto ∙ ap (λ (p : ℕ). run_of code (left - 1) (record n { place = p })) (sym c.place_of-self-then-most-eq0.ensures)
@@ -92,15 +99,16 @@ steps-preserved g c =
     let k = c.steps.at in
     let to = c.match-exec_ready.to in
     let is = are.each k c.steps.invariant.within in
-    let n = c.exec_ready.new.self in
+    let m = machine_of g.row.N c.steps.self c.steps.state in
+    let n = machine_of g.row.N c.exec_ready.new.self c.exec_ready.new.state in
     let left = c.steps.spare + (length heads - k) in
     let some : 0 < left = omega (arith, c.steps.invariant.within) in
-    let onto : run_of code left (at_index c.steps.self heads k) ≡ run_of code (left - 1) (at_index n heads to) = elim c.match-exec_ready.branch [
+    let onto : run_of code left (at_index m heads k) ≡ run_of code (left - 1) (at_index n heads to) = elim c.match-exec_ready.branch [
       | in-At w ↦ (
-          run-at code heads (slice_index immediates k) k c.steps.self n c.exec_ready.result is c.exec_ready.ensures left w.in-At.to some w.in-At.is
+          run-at code heads (slice_index immediates k) k m n c.exec_ready.result is c.exec_ready.ensures left w.in-At.to some w.in-At.is
           ∙ ap (λ (t : ℕ). run_of code (left - 1) (at_index n heads t)) (sym w.to-is))
       | in-To+in-Some-index_of w ↦ (
-          run-to code heads (slice_index immediates k) k c.steps.self n c.exec_ready.result is c.exec_ready.ensures left w.in-To.place some w.in-To.is
+          run-to code heads (slice_index immediates k) k m n c.exec_ready.result is c.exec_ready.ensures left w.in-To.place some w.in-To.is
           ∙ ap (λ (p : ℕ). run_of code (left - 1) (record n { place = p })) (sym w.in-Some-index_of.ensures.place ∙ ap (λ (t : ℕ). place_at (head_at heads t).place) (sym w.to-is)))
     ] in
     let most : c.saturating_sub-most.result ≡ length heads - to = search rules in
