@@ -17,7 +17,7 @@ IMAGE, DATA, STATE, STACK, RETURN = 0x1_0000, 0x2000_0000, 0x4000_0000, 1024, 0x
 CLASSES = (64, 256, 1024, 4096)  # bytes of a state
 MOST_SENDS, MOST_RECORDS, MOST_DRAWS = 16, 4, 64
 TRAP, NO_FINAL = 2**32 - 1, 2**64 - 1
-BAD_JUMP, BAD_INSTRUCTION, BAD_PLACE, BAD_CALL, TOO_MANY, BAD_SEND, SPENT, BREAKPOINT = range(1, 9)
+BAD_JUMP, BAD_INSTRUCTION, BAD_ADDRESS, BAD_CALL, TOO_MANY, BAD_SEND, SPENT, BREAKPOINT = range(1, 9)
 BELOW, WORD, SEND, EMIT, LPS, DATA_SIZE = range(6)
 
 # ---- The words that processes draw: ChaCha with eight rounds, a stream for each process.
@@ -208,43 +208,43 @@ class Program:
         self.image, self.first, self.code_size = b"", b"", 0
         programs, (count,) = struct.unpack_from("<Q", file, 32)[0], struct.unpack_from("<H", file, 56)
         for at in range(programs, programs + 56 * count, 56):
-            kind, flags, offset, place, _, file_size, size = struct.unpack_from("<IIQQQQQ", file, at)
+            kind, flags, offset, address, _, file_size, size = struct.unpack_from("<IIQQQQQ", file, at)
             data = file[offset : offset + file_size] + bytes(size - file_size)
             if kind != 1 or size == 0:
                 continue
             if flags & 2:
-                self.first += bytes(place - STATE - len(self.first)) + data
+                self.first += bytes(address - STATE - len(self.first)) + data
             else:
-                self.image += bytes(place - IMAGE - len(self.image)) + data
+                self.image += bytes(address - IMAGE - len(self.image)) + data
                 self.code_size = len(self.image) if flags & 1 else self.code_size
         self.first = self.first.ljust(next(it for it in CLASSES if len(self.first) <= it), b"\0")
         self.entries = dict(symbols_of(file))
 
-    def at(self, place):
-        """The instruction at a place, and its length."""
-        offset = place - IMAGE
-        if self.is_misaligned(place) or not 0 <= offset <= self.code_size - 2:
+    def at(self, address):
+        """The instruction at an address, and its length."""
+        offset = address - IMAGE
+        if self.is_misaligned(address) or not 0 <= offset <= self.code_size - 2:
             raise Trap(BAD_JUMP)
         half = int.from_bytes(self.image[offset : offset + 2], "little")
         if half % 4 == 3:
             return (int.from_bytes(self.image[offset : offset + 4], "little"), 4) if offset <= self.code_size - 4 else (None, 4)
         return ((expanded_0, expanded_1, expanded_2)[half % 4](half) if self.flags % 2 else None), 2
 
-    def is_misaligned(self, place):
-        return place % (2 if self.flags % 2 else 4) != 0
+    def is_misaligned(self, address):
+        return address % (2 if self.flags % 2 else 4) != 0
 
 
 def symbols_of(file):
-    """The names and places of functions."""
+    """The names and addresses of functions."""
     sections, count = struct.unpack_from("<Q", file, 40)[0], struct.unpack_from("<H", file, 60)[0]
     for at in range(sections, sections + 64 * count, 64):
         if struct.unpack_from("<I", file, at + 4)[0] == 2:
             table, size, link = struct.unpack_from("<QQI", file, at + 24)
             names = struct.unpack_from("<Q", file, sections + 64 * link + 24)[0]
             for symbol in range(table, table + size, 24):
-                name, kind, _, section, place = struct.unpack_from("<IBBHQ", file, symbol)
+                name, kind, _, section, address = struct.unpack_from("<IBBHQ", file, symbol)
                 if section and kind % 16 in (0, 2):
-                    yield file[names + name : file.index(b"\0", names + name)].decode(), place
+                    yield file[names + name : file.index(b"\0", names + name)].decode(), address
 
 
 # ---- A handler.
@@ -255,7 +255,7 @@ class Handler:
 
     def __init__(self, run, kind, state, numbers, now=(0, 0)):
         self.run, self.kind, self.now, self.lp = run, kind, now, numbers[0]
-        self.place = run.program.entries[kind]
+        self.pc = run.program.entries[kind]
         self.registers = [0, RETURN, STATE, *[0] * 7, *numbers, *[0] * (22 - len(numbers))]
         self.state, self.stack = bytearray(state), bytearray(STACK)
         self.sends, self.records, self.draws = [], [], 0
@@ -264,44 +264,44 @@ class Handler:
         """Runs it to its end. Gives 0, or the value of the trap's record."""
         try:
             for _ in range(self.run.fuel):
-                if self.place == RETURN:
+                if self.pc == RETURN:
                     return 0
                 self.step()
-            if self.place != RETURN:
+            if self.pc != RETURN:
                 raise Trap(SPENT)
             return 0
         except Trap as trap:
-            return trap.args[0] << 32 | self.place % 2**32
+            return trap.args[0] << 32 | self.pc % 2**32
 
     def step(self):
-        bits, length = self.run.program.at(self.place)
+        bits, length = self.run.program.at(self.pc)
         if bits is None:
             raise Trap(BAD_INSTRUCTION)
-        opcode, to, behind = bits & 127, part(bits, 11, 7), (self.place + length) % 2**64
+        opcode, to, behind = bits & 127, part(bits, 11, 7), (self.pc + length) % 2**64
         a, b = self.registers[part(bits, 19, 15)], self.registers[part(bits, 24, 20)]
-        value, place = self.gone(bits, a, b, behind) if opcode in (0x6F, 0x67, 0x63) else (self.given(bits, a, b), behind)
+        value, pc = self.gone(bits, a, b, behind) if opcode in (0x6F, 0x67, 0x63) else (self.given(bits, a, b), behind)
         if value is not None and to:
             self.registers[to] = value % 2**64
-        self.place = place
+        self.pc = pc
 
     def gone(self, bits, a, b, behind):
         """What a jump or a branch puts into its register, if it does, and where it goes."""
         opcode, f3 = bits & 127, part(bits, 14, 12)
         if opcode == 0x6F:
-            return behind, self.jumped(self.place + signed(joined(bits, (31, 31, 20), (19, 12, 12), (20, 20, 11), (30, 21, 1)), 21))
+            return behind, self.jumped(self.pc + signed(joined(bits, (31, 31, 20), (19, 12, 12), (20, 20, 11), (30, 21, 1)), 21))
         if opcode == 0x67 and f3 == 0:
             return behind, self.jumped((a + signed(bits >> 20, 12)) // 2 * 2)
         if opcode == 0x67 or f3 not in TAKEN:
             raise Trap(BAD_INSTRUCTION)
         if not TAKEN[f3](a, b, signed(a, 64), signed(b, 64)):
             return None, behind
-        return None, self.jumped(self.place + signed(joined(bits, (31, 31, 12), (7, 7, 11), (30, 25, 5), (11, 8, 1)), 13))
+        return None, self.jumped(self.pc + signed(joined(bits, (31, 31, 12), (7, 7, 11), (30, 25, 5), (11, 8, 1)), 13))
 
     def given(self, bits, a, b):
         """What another instruction puts into its register, or None."""
         opcode, f3 = bits & 127, part(bits, 14, 12)
         if opcode in (0x37, 0x17):
-            return signed(bits >> 12 << 12, 32) + (self.place if opcode == 0x17 else 0)
+            return signed(bits >> 12 << 12, 32) + (self.pc if opcode == 0x17 else 0)
         if opcode == 0x03 and f3 < 7:
             return self.loaded(a + signed(bits >> 20, 12), f3)
         if opcode == 0x23 and f3 < 4:
@@ -318,23 +318,23 @@ class Handler:
             return value
         return None
 
-    def jumped(self, place):
-        if self.run.program.is_misaligned(place):
+    def jumped(self, address):
+        if self.run.program.is_misaligned(address):
             raise Trap(BAD_JUMP)
-        return place % 2**64
+        return address % 2**64
 
-    def memory(self, place, size, written):
+    def memory(self, address, size, written):
         """The part of memory in which so many bytes lie, and where in it."""
         parts = [(STATE, self.state), (STATE - STACK, self.stack)]
         for base, memory in parts if written else [*parts, (DATA, self.run.data), (IMAGE, self.run.program.image)]:
-            at = place % 2**64 - base
+            at = address % 2**64 - base
             if 0 <= at <= len(memory) - size:
                 return memory, at
-        raise Trap(BAD_PLACE)
+        raise Trap(BAD_ADDRESS)
 
-    def loaded(self, place, f3):
+    def loaded(self, address, f3):
         size = 1 << f3 % 4
-        memory, at = self.memory(place, size, False)
+        memory, at = self.memory(address, size, False)
         value = int.from_bytes(memory[at : at + size], "little")
         return signed(value, 8 * size) if f3 < 4 else value
 

@@ -126,10 +126,10 @@ static unsigned long sum(void)
 static void print_outcome(void)
 {
     char line[128], *to = line;
-    unsigned long place = last[0];
-    to = put_word(to, why == SIGTRAP ? "breakpoint" : why == SIGILL ? "instruction" : place - IMAGE < PAGE ? "place" : "jump");
+    unsigned long pc = last[0];
+    to = put_word(to, why == SIGTRAP ? "breakpoint" : why == SIGILL ? "instruction" : pc - IMAGE < PAGE ? "address" : "jump");
     *to++ = ' ';
-    to = put_hexadecimal(to, place);
+    to = put_hexadecimal(to, pc);
     *to++ = ' ';
     to = put_hexadecimal(to, last[12]);
     *to++ = ' ';
@@ -138,9 +138,9 @@ static void print_outcome(void)
     print(line, (size_t)(to - line));
 }
 
-static void map(unsigned long place, unsigned long length)
+static void map(unsigned long address, unsigned long length)
 {
-    call(SYS_mmap, place, length, PROT_READ | PROT_WRITE, MAP_PRIVATE | MAP_ANONYMOUS | MAP_FIXED, -1, 0);
+    call(SYS_mmap, address, length, PROT_READ | PROT_WRITE, MAP_PRIVATE | MAP_ANONYMOUS | MAP_FIXED, -1, 0);
 }
 
 void start(void)

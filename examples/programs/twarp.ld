@@ -1,4 +1,4 @@
-/* The places of a program's parts in the memory of a handler: code and constants from 0x10000 on, the bytes of --data at
+/* The addresses of a program's parts in the memory of a handler: code and constants from 0x10000 on, the bytes of --data at
    0x20000000, and the state of the process at 0x40000000. Each part is a segment of the file. */
 ENTRY(start)
 EXTERN(start forward finish)

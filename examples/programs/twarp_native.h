@@ -7,8 +7,8 @@
 // taken too and change nothing, so that a command of twarp can be handed to it.
 //
 // A call that the simulator would answer by a trap ends the handler: it is recorded as twarp records it, but with 0 for the
-// place in the program, and a line on standard error says what was wrong. A debugger stops there at `break twarp_trap`. A
-// place outside all objects is what sanitizers are for, and nothing counts instructions.
+// address in the program, and a line on standard error says what was wrong. A debugger stops there at `break twarp_trap`. An
+// address outside all objects is what sanitizers are for, and nothing counts instructions.
 //
 // Each process has its own copy of the model's objects that may change. The program finds them in its own file's table of
 // symbols, as it finds those of --set: so it runs on Linux alone, and is linked neither with -s nor with -static.
@@ -125,7 +125,7 @@ static struct twarp_run {
   u64 trap, traps;
 } twarp_run;
 
-// The place of `data`.
+// What lies at `data`.
 #define TWARP_TEXT_OF(number) #number
 #define TWARP_TEXT(number) TWARP_TEXT_OF(number)
 __asm__(".pushsection .bss.twarp_data,\"aw\",%nobits\n"

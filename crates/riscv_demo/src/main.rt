@@ -1,9 +1,9 @@
 //! Runs short programs of RISC-V, one for each line of standard input, and prints what each comes to.
 //!
 //! A line has two numbers, for registers a0 and a1, and instructions of eight digits, or of four where they are compressed. All are
-//! hexadecimal. Registers sp, s0 and s1 hold the places of the state, of its middle and of the image, and the others are 0. Byte k of
+//! hexadecimal. Registers sp, s0 and s1 hold the addresses of the state, of its middle and of the image, and the others are 0. Byte k of
 //! the state is 37 k + 11 modulo 256, and EBREAK stands behind the instructions. A line of the output has why the program stopped, at
-//! which place, what a2 holds then, and a sum of all registers, the stack and the state.
+//! which address, what a2 holds then, and a sum of all registers, the stack and the state.
 #![tactic(auto)]
 
 use std::alloc::{AllocError, Global};
@@ -67,7 +67,7 @@ fn read(alloc: Global, text: &str) -> Result<Line, AllocError> {
 // The machine before the first instruction, but for its state.
 fn machine(x: u64, y: u64) -> Core {
     let mut core = Core {
-        place: IMAGE,
+        pc: IMAGE,
         registers: [0; 32],
         stack: [0; 1_024],
     };
@@ -91,7 +91,7 @@ fn state() -> [u8; PAGE] {
     state
 }
 
-// A sum in which each number and its place tell.
+// A sum that depends on each number and on where it stands.
 fn sum(core: &Core, state: &[u8; PAGE]) -> u64 {
     let mut sum = 0_u64;
     for number in core.registers.iter() {
@@ -111,7 +111,7 @@ fn word(outcome: Outcome) -> &'static str {
         Stop::Spent => "spent",
         Stop::Trapped(Trap::BadJump) => "jump",
         Stop::Trapped(Trap::BadInstruction) => "instruction",
-        Stop::Trapped(Trap::BadPlace) => "place",
+        Stop::Trapped(Trap::BadAddress) => "address",
         Stop::Trapped(Trap::Breakpoint) => "breakpoint",
     }
 }
@@ -125,7 +125,7 @@ fn describe(alloc: Global, text: &str) -> Result<String, AllocError> {
     format!(in alloc;
         "{} {:x} {:x} {:x}",
         word(outcome),
-        core.place,
+        core.pc,
         core.registers[12],
         sum(&core, &state)
     )

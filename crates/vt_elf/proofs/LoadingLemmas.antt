@@ -9,17 +9,17 @@ use borrow.Rule.Slice.PartMut.{put_mid}
 use Rattle.vt_elf.specs.declared.segment.Segment.{Segment}
 use Rattle.vt_elf.specs.promise.Segments.{file_byte, has_byte, memory_byte}
 
--- a place that a segment has a byte for, and one that it has none for
-pub has : {X : Type 0} (s : Segment) (place : ℕ) (x y : X) → s.place ≤ place → place < s.place + s.file_size → cond (has_byte s place) x y ≡ x
-has s place x y from to = rw (le-leb s.place place from, lt-ltb place (s.place + s.file_size) to) refl
+-- an address that a segment has a byte for, and one that it has none for
+pub has : {X : Type 0} (s : Segment) (address : ℕ) (x y : X) → s.address ≤ address → address < s.address + s.file_size → cond (has_byte s address) x y ≡ x
+has s address x y from to = rw (le-leb s.address address from, lt-ltb address (s.address + s.file_size) to) refl
 
-pub has_not : {X : Type 0} (s : Segment) (place : ℕ) (x y : X) → (place < s.place) ⊎ (s.place + s.file_size ≤ place) → cond (has_byte s place) x y ≡ y
-has_not s place x y (inl below) = rw (lt-leb s.place place below) refl
-has_not s place x y (inr above) =
+pub has_not : {X : Type 0} (s : Segment) (address : ℕ) (x y : X) → (address < s.address) ⊎ (s.address + s.file_size ≤ address) → cond (has_byte s address) x y ≡ y
+has_not s address x y (inl below) = rw (lt-leb s.address address below) refl
+has_not s address x y (inr above) =
     ⊎_elim
-    (λ (h : place < s.place). rw (lt-leb s.place place h) refl)
-    (λ (h : s.place ≤ place). rw (le-leb s.place place h, le-ltb place (s.place + s.file_size) above) refl)
-    (cases_lt place s.place)
+    (λ (h : address < s.address). rw (lt-leb s.address address h) refl)
+    (λ (h : s.address ≤ address). rw (le-leb s.address address h, le-ltb address (s.address + s.file_size) above) refl)
+    (cases_lt address s.address)
 
 -- a byte of a list over a part of which others were written
 pub put_before : (to count : ℕ) (old new : List ℕ) (k : ℕ) → to ≤ length old → k < to → get_or (put_mid to count old new) k 0 ≡ get_or old k 0
@@ -46,7 +46,7 @@ put_behind to count old new k fits size above =
     ∙ ap (λ i. get_or old i 0) index
 
 -- a byte of the memory from `base` on over which a segment's bytes were put
-pub put_byte : (file memory new : List ℕ) (s : Segment) (base to count k : ℕ) → base ≤ s.place → to ≡ s.place - base → count ≡ s.file_size → to + count ≤ length memory → s.offset + s.file_size ≤ length file → new ≡ slice_range file s.offset (s.offset + s.file_size) → get_or (put_mid to count memory new) k 0 ≡ cond (has_byte s (base + k)) (file_byte file s (base + k)) (get_or memory k 0)
+pub put_byte : (file memory new : List ℕ) (s : Segment) (base to count k : ℕ) → base ≤ s.address → to ≡ s.address - base → count ≡ s.file_size → to + count ≤ length memory → s.offset + s.file_size ≤ length file → new ≡ slice_range file s.offset (s.offset + s.file_size) → get_or (put_mid to count memory new) k 0 ≡ cond (has_byte s (base + k)) (file_byte file s (base + k)) (get_or memory k 0)
 put_byte file memory new s base to count k begins at all fits whole is =
     let size : length new ≡ count = omega (arith, ap length is, length-take ((s.offset + s.file_size) - s.offset) (drop s.offset file), length-drop s.offset file) in
     ⊎_elim
@@ -56,7 +56,7 @@ put_byte file memory new s base to count k begins at all fits whole is =
     (λ (from : to ≤ k).
     ⊎_elim
     (λ (below : k < to + count).
-    let index : s.offset + (k - to) ≡ s.offset + ((base + k) - s.place) = omega arith in
+    let index : s.offset + (k - to) ≡ s.offset + ((base + k) - s.address) = omega arith in
     put_within to count memory new k (omega arith) size from below
     ∙ ap (λ ys. get_or ys (k - to) 0) is
     ∙ get_or-between file s.offset (s.offset + s.file_size) (k - to) 0 (omega arith)
@@ -69,8 +69,8 @@ put_byte file memory new s base to count k begins at all fits whole is =
     (cases_lt k to)
 
 -- one segment more in front
-pub memory_more : (file : List ℕ) (ss : List Segment) (i place : ℕ) (d : Segment) → i < length ss → memory_byte file (drop i ss) place ≡ cond (has_byte (get_or ss i d) place) (file_byte file (get_or ss i d) place) (memory_byte file (drop (suc i) ss) place)
-memory_more file ss i place d below = ap (λ rest. memory_byte file rest place) (drop-cons ss i d below)
+pub memory_more : (file : List ℕ) (ss : List Segment) (i address : ℕ) (d : Segment) → i < length ss → memory_byte file (drop i ss) address ≡ cond (has_byte (get_or ss i d) address) (file_byte file (get_or ss i d) address) (memory_byte file (drop (suc i) ss) address)
+memory_more file ss i address d below = ap (λ rest. memory_byte file rest address) (drop-cons ss i d below)
 
 -- what holds of each element holds of the i-th
 pub all_at : {X : Type 0} (P : X → Type 0) (xs : List X) (i : ℕ) (d : X) → i < length xs → AllByRecursion P xs → P (get_or xs i d)

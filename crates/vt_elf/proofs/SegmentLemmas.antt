@@ -18,7 +18,7 @@ pub record IsSound (size : ℕ) (s : Segment) : Type 0 where
   pub access : (is_writable s && is_executable s) ≡ false
   pub shorter : s.file_size ≤ s.memory_size
   pub in_file : s.offset + s.file_size ≤ size
-  pub from : base_of (region_of s) ≤ s.place
+  pub from : base_of (region_of s) ≤ s.address
   pub to : end_of s ≤ base_of (region_of s) + limit_of (region_of s)
 
 -- is_in, by what the segment's access is
@@ -35,7 +35,7 @@ pub or_none : (a b : Option Refusal) → option_or a b ≡ None → (a ≡ None)
 or_none None b e = (refl, e)
 or_none (Some r) b e = cc
 
-pub region_sound : (code : Bool) (s : Segment) → region_fault code s ≡ None → (base_of (region_of s) ≤ s.place) × (end_of s ≤ base_of (region_of s) + limit_of (region_of s))
+pub region_sound : (code : Bool) (s : Segment) → region_fault code s ≡ None → (base_of (region_of s) ≤ s.address) × (end_of s ≤ base_of (region_of s) + limit_of (region_of s))
 region_sound code s e =
     let begins = unless_none _ _ _ e in
     let ends = unless_none _ _ _ begins.1 in
@@ -81,8 +81,8 @@ pub some_region : (s : Segment) → (is_in Code s ≡ true) ⊎ ((is_in Constant
 some_region s = some_access (is_writable s) (is_executable s)
 
 -- where a sound segment of a region lies
-pub begins_in : (r : Region) {size : ℕ} (s : Segment) → IsSound size s → is_in r s ≡ true → base_of r ≤ s.place
-begins_in r s sound e = subst (λ r. base_of r ≤ s.place) (region_is r s sound.access e) sound.from
+pub begins_in : (r : Region) {size : ℕ} (s : Segment) → IsSound size s → is_in r s ≡ true → base_of r ≤ s.address
+begins_in r s sound e = subst (λ r. base_of r ≤ s.address) (region_is r s sound.access e) sound.from
 
 pub ends_in : (r : Region) {size : ℕ} (s : Segment) → IsSound size s → is_in r s ≡ true → end_of s ≤ base_of r + limit_of r
 ends_in r s sound e = subst (λ r. end_of s ≤ base_of r + limit_of r) (region_is r s sound.access e) sound.to
@@ -126,9 +126,9 @@ ends_within r least bound (s ∷ ss) h =
 pub apart_of_image : (file : List ℕ) (bound : ℕ) (s : Segment) → IsSound (length file) s → bound ≤ STATE → EndBelow Code bound s → EndBelow Constants bound s → IsApart file IMAGE bound s
 apart_of_image file bound s sound low code constants =
     let outside : is_in State s ≡ true → IsApart file IMAGE bound s = λ e.
-    let from : STATE ≤ s.place = begins_in State s sound e in
+    let from : STATE ≤ s.address = begins_in State s sound e in
     record { in_file = sound.in_file; below = λ h. absurd (omega arith); inside = λ f t. absurd (omega arith) } in
-    let within : IMAGE ≤ s.place → end_of s ≤ bound → IsApart file IMAGE bound s = λ from to.
+    let within : IMAGE ≤ s.address → end_of s ≤ bound → IsApart file IMAGE bound s = λ from to.
     let shorter : s.file_size ≤ s.memory_size = sound.shorter in
     record { in_file = sound.in_file; below = λ h. absurd (omega arith); inside = λ f t. omega arith } in
     ⊎_elim
@@ -146,7 +146,7 @@ apart_of_state file bound s sound state =
     let outside : end_of s ≤ STATE → IsApart file STATE bound s = λ to.
     record { in_file = sound.in_file; below = λ h. omega arith; inside = λ f t. omega arith } in
     let within : is_in State s ≡ true → IsApart file STATE bound s = λ e.
-    let from : STATE ≤ s.place = begins_in State s sound e in
+    let from : STATE ≤ s.address = begins_in State s sound e in
     let to : end_of s ≤ bound = state e in
     record { in_file = sound.in_file; below = λ h. absurd (omega arith); inside = λ f t. omega arith } in
     ⊎_elim

@@ -28,7 +28,7 @@ pub struct Executable {
     pub code_size: usize,
     /// What lies in memory from [`STATE`] on before anything runs.
     pub first_state: Vec<u8>,
-    /// Which names stand for which places.
+    /// Which names stand for which addresses.
     pub symbols: Symbols,
 }
 

@@ -87,7 +87,7 @@ pub(crate) fn program_header(bytes: &[u8], index: usize) -> usize
     requires header { 64 ≤ length bytes.now }
     requires headers { has_program_headers bytes.now ≡ true }
     requires below { index < e_phnum bytes.now }
-    ensures place { result ≡ program_header bytes.now index }
+    ensures offset { result ≡ program_header bytes.now index }
     ensures inside { result + 56 ≤ length bytes.now }
 {
     double_at(bytes, 32) as usize + PROGRAM_HEADER_SIZE * index

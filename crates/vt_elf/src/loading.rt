@@ -10,7 +10,7 @@ use crate::refusal::Refusal;
 use crate::segment::Segment;
 use std::alloc::Global;
 
-/// So many bytes of memory from a place on: those that the segments have in the file, and zeros elsewhere.
+/// So many bytes of memory from an address on: those that the segments have in the file, and zeros elsewhere.
 pub(crate) fn load(
     alloc: Global,
     bytes: &[u8],
@@ -41,7 +41,7 @@ fn put(memory: &mut [u8], base: u64, segment: &Segment, bytes: &[u8])
         return;
     }
     let from = segment.offset as usize;
-    let to = (segment.place - base) as usize;
+    let to = (segment.address - base) as usize;
     let count = segment.file_size as usize;
     memory[to..to + count].copy_from_slice(&bytes[from..from + count]);
 }

@@ -7,7 +7,7 @@ use std::alloc::AllocError;
 use std::error::Error;
 use std::fmt;
 
-/// Why a file is no executable that can be taken. A number is the place in memory where the segment begins that is wrong.
+/// Why a file is no executable that can be taken. A number is the address at which the segment begins that is wrong.
 #[derive(Debug, Clone, Copy, PartialEq, Eq)]
 pub enum Refusal {
     /// It doesn't begin with the header of an ELF file.
@@ -45,10 +45,10 @@ impl Refusal {
     // Where the segment begins that is wrong, if it is one.
     fn segment(self) -> Option<u64> {
         match self {
-            Refusal::WritableCode(place)
-            | Refusal::OutsideFile(place)
-            | Refusal::Overlap(place)
-            | Refusal::OutsideRegion(place) => Some(place),
+            Refusal::WritableCode(address)
+            | Refusal::OutsideFile(address)
+            | Refusal::Overlap(address)
+            | Refusal::OutsideRegion(address) => Some(address),
             _ => None,
         }
     }
@@ -77,7 +77,7 @@ impl Refusal {
 impl fmt::Display for Refusal {
     fn fmt<W: fmt::Write>(&self, f: &mut fmt::Formatter<W>) -> fmt::Result {
         match self.segment() {
-            Some(place) => write!(f, "the segment at {place:#x} {}", self.text()),
+            Some(address) => write!(f, "the segment at {address:#x} {}", self.text()),
             None => f.write_str(self.text()),
         }
     }

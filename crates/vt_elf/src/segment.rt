@@ -77,7 +77,7 @@ impl Region {
 pub(crate) struct Segment {
     pub flags: u32,
     pub offset: u64,
-    pub place: u64,
+    pub address: u64,
     pub file_size: u64,
     pub memory_size: u64,
 }
@@ -117,11 +117,11 @@ impl Segment {
         }
     }
 
-    /// Whether the segment begins within so many bytes from a place on.
+    /// Whether the segment begins within so many bytes from an address on.
     pub(crate) fn begins_within(&self, base: u64, size: usize) -> bool
-        ensures { result ≡ (nat_le base self.now.place && nat_lt self.now.place (base + size)) }
+        ensures { result ≡ (nat_le base self.now.address && nat_lt self.now.address (base + size)) }
     {
-        base <= self.place && self.place - base < size as u64
+        base <= self.address && self.address - base < size as u64
     }
 
     /// Whether the segment lies within its region, and which refusal tells that it doesn't.
@@ -130,10 +130,13 @@ impl Segment {
     {
         let region = self.region();
         let end = region.base() + region.limit();
-        if self.place < region.base() || self.place >= end || (!only_code && self.is_executable()) {
-            return Err(Refusal::OutsideRegion(self.place));
+        if self.address < region.base()
+            || self.address >= end
+            || (!only_code && self.is_executable())
+        {
+            return Err(Refusal::OutsideRegion(self.address));
         }
-        if self.memory_size > end - self.place {
+        if self.memory_size > end - self.address {
             return Err(region.excess());
         }
         Ok(())
@@ -144,13 +147,13 @@ impl Segment {
         ensures { result_err result ≡ segment_fault size before only_code self.now }
     {
         if self.is_writable() && self.is_executable() {
-            return Err(Refusal::WritableCode(self.place));
+            return Err(Refusal::WritableCode(self.address));
         }
         if self.file_size > self.memory_size || !is_inside(self.offset, self.file_size, size) {
-            return Err(Refusal::OutsideFile(self.place));
+            return Err(Refusal::OutsideFile(self.address));
         }
-        if self.place < before {
-            return Err(Refusal::Overlap(self.place));
+        if self.address < before {
+            return Err(Refusal::Overlap(self.address));
         }
         self.check_region(only_code)
     }
@@ -172,7 +175,7 @@ fn segment_at(bytes: &[u8], at: usize) -> Segment
     Segment {
         flags: word_at(bytes, at + 4),
         offset: double_at(bytes, at + 8),
-        place: double_at(bytes, at + 16),
+        address: double_at(bytes, at + 16),
         file_size: double_at(bytes, at + 32),
         memory_size: double_at(bytes, at + 40),
     }
@@ -206,7 +209,7 @@ pub(crate) fn check_segments(segments: &[Segment], size: usize) -> Result<(), Re
     let mut only_code = true;
     for segment in segments {
         segment.check(size, before, only_code)?;
-        before = segment.place + segment.memory_size;
+        before = segment.address + segment.memory_size;
         only_code = only_code && segment.is_executable();
     }
     Ok(())
@@ -220,7 +223,7 @@ pub(crate) fn reach(region: Region, least: u64, segments: &[Segment]) -> u64
     let mut end = least;
     for segment in segments {
         if segment.is_in(region) {
-            end = end.max(segment.place + segment.memory_size);
+            end = end.max(segment.address + segment.memory_size);
         }
     }
     end

@@ -30,7 +30,7 @@ pub(crate) enum SymbolKind {
 /// has them.
 #[derive(Debug, Clone, Copy, PartialEq, Eq)]
 pub struct Object {
-    pub place: u64,
+    pub address: u64,
     pub size: u64,
 }
 
@@ -44,16 +44,16 @@ pub struct Symbols {
 }
 
 impl Symbols {
-    /// The place of the first defined symbol of this name that is a function or has no type, whether it is local, global or
+    /// The address of the first defined symbol of this name that is a function or has no type, whether it is local, global or
     /// weak; `None` where there is none.
-    pub fn place_of(&self, name: &[u8]) -> Option<u64>
+    pub fn address_of(&self, name: &[u8]) -> Option<u64>
         ensures { result ≡ function_named self.now name.now }
     {
         let index = first_symbol(&self.table, &self.names, SymbolKind::Function, name)?;
         Some(double_at(&self.table, SYMBOL_SIZE * index + 8))
     }
 
-    /// The place and the size of the first defined symbol of this name that is an object, whether it is local, global or weak;
+    /// The address and the size of the first defined symbol of this name that is an object, whether it is local, global or weak;
     /// `None` where there is none.
     pub fn object(&self, name: &[u8]) -> Option<Object>
         ensures { result ≡ object_named self.now name.now }
@@ -68,7 +68,7 @@ fn object_at(table: &[u8], at: usize) -> Object
     ensures { result ≡ object_at table.now at }
 {
     Object {
-        place: double_at(table, at + 8),
+        address: double_at(table, at + 8),
         size: double_at(table, at + 16),
     }
 }
@@ -154,7 +154,7 @@ fn section_header(bytes: &[u8], index: usize) -> usize
     requires header { 64 ≤ length bytes.now }
     requires headers { has_section_headers bytes.now ≡ true }
     requires below { index < e_shnum bytes.now }
-    ensures place { result ≡ section_header bytes.now index }
+    ensures offset { result ≡ section_header bytes.now index }
     ensures inside { result + 64 ≤ length bytes.now }
 {
     double_at(bytes, 40) as usize + SECTION_HEADER_SIZE * index

@@ -19,7 +19,7 @@ use Rattle.vt_model.proofs.LawLemmas.{lawful_of}
 use Rattle.vt_model.proofs.EndLemmas.{whole_is_history}
 use Rattle.vt_guest.specs.declared.trap.TheConstants.{TRAP}
 use Rattle.vt_guest.specs.declared.trap.Reason.{Reason}
-use Rattle.vt_guest.specs.declared.trap.Reason.TheVariants.{BadJump, BadInstruction, BadPlace, BadCall, TooMany, BadSend, Spent, Breakpoint}
+use Rattle.vt_guest.specs.declared.trap.Reason.TheVariants.{BadJump, BadInstruction, BadAddress, BadCall, TooMany, BadSend, Spent, Breakpoint}
 use Rattle.vt_guest.specs.declared.process.Words.{Words}
 use Rattle.vt_guest.specs.declared.process.Process.{Process}
 use Rattle.vt_guest.specs.declared.guest.Guest.{Guest}
@@ -32,15 +32,15 @@ use Rattle.vt_guest.specs.inside.Showing.{IsTrapEvent, IsFailedStart}
 numbered : (why : Reason) → 0 < number_of why
 numbered BadJump = omega arith
 numbered BadInstruction = omega arith
-numbered BadPlace = omega arith
+numbered BadAddress = omega arith
 numbered BadCall = omega arith
 numbered TooMany = omega arith
 numbered BadSend = omega arith
 numbered Spent = omega arith
 numbered Breakpoint = omega arith
 
-pub marked : (why : Reason) (place : ℕ) → 0 < trap_value why place
-marked why place = omega (arith, numbered why)
+pub marked : (why : Reason) (address : ℕ) → 0 < trap_value why address
+marked why address = omega (arith, numbered why)
 
 -- the test of a state that is whole, and of one that failed
 pub whole-test : (n : ℕ) → n ≡ 0 → nat_eq n 0 ≡ true
@@ -51,7 +51,7 @@ failed-test n some = ne_eqb n 0 (λ e. absurd (omega (arith, e, some)))
 
 module _ {N : ℕ} where
   pub trapped-event : (g : Guest N) (lps lp : ℕ) (now : Time) (w : Words) (s : Process N) (words : ℕ → ℕ) (why : Reason) → s.failed ≡ 0 → (event_run g lps lp now w s words).end ≡ Err why
-      → guest_forward g lps lp now w s words ≡ trap_gives s (event_run g lps lp now w s words).handling.drawn (trap_value why (event_run g lps lp now w s words).handling.machine.place)
+      → guest_forward g lps lp now w s words ≡ trap_gives s (event_run g lps lp now w s words).handling.drawn (trap_value why (event_run g lps lp now w s words).handling.machine.pc)
   trapped-event g lps lp now w s words why whole e =
       let run = event_run g lps lp now w s words in
       (λ j. if whole-test s.failed whole j then event_gives s (e j) run.handling run.sends run.notes else trap_gives s 0 s.failed)
@@ -73,7 +73,7 @@ module _ {N : ℕ} where
   failed-start g lps lp words why e = ap (λ end. start_gives lp g.first end (start_run g lps lp words).handling (start_run g lps lp words).sends) e
 
   pub start-fails : (g : Guest N) (lps lp : ℕ) (words : ℕ → ℕ) (why : Reason) → (start_run g lps lp words).end ≡ Err why
-      → IsFailedStart g lp (trap_value why (start_run g lps lp words).handling.machine.place) (guest_start g lps lp words)
+      → IsFailedStart g lp (trap_value why (start_run g lps lp words).handling.machine.pc) (guest_start g lps lp words)
   start-fails g lps lp words why e =
       let gives = failed-start g lps lp words why e in
       record {
@@ -140,11 +140,11 @@ module _ {N : ℕ} (g : Guest N) (c : Config) (lp value : ℕ) (some : 0 < value
 -- a trap in a start shows in the records before every time past (0, 1)
 pub shows : {N : ℕ} (g : Guest N) (c : Config) (lp : ℕ) (why : Reason) (t : Time) → lp < c.lps → at 0 1 < t
     → (start_run g c.lps lp (words_at c.seed lp 0)).end ≡ Err why
-    → Among (trap_record lp (trap_value why (start_run g c.lps lp (words_at c.seed lp 0)).handling.machine.place)) (seq_records (simulation_of (guest_handlers g) c) t)
+    → Among (trap_record lp (trap_value why (start_run g c.lps lp (words_at c.seed lp 0)).handling.machine.pc)) (seq_records (simulation_of (guest_handlers g) c) t)
 unfolding start_of
 shows {N} g c lp why t known early e =
     let words = words_at c.seed lp 0 in
-    let value : ℕ = trap_value why (start_run g c.lps lp words).handling.machine.place in
+    let value : ℕ = trap_value why (start_run g c.lps lp words).handling.machine.pc in
     let sim : Simulation (Process N) Words = simulation_of (guest_handlers g) c in
     let start = start-fails g c.lps lp words why e in
     let lawful : IsLawful sim = lawful_of (guest_handlers g) c (start_within g) (forward_within g) in

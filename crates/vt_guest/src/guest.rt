@@ -110,7 +110,7 @@ where
                 out.send(lp, 0, 1, none);
                 Process {
                     bytes: self.first,
-                    failed: trap_value(reason, progress.core.place),
+                    failed: trap_value(reason, progress.core.pc),
                 }
             }
         }
@@ -146,7 +146,7 @@ where
             let bytes = before.bytes;
             state.bytes = bytes;
             out.take_back();
-            out.emit(TRAP, trap_value(reason, progress.core.place));
+            out.emit(TRAP, trap_value(reason, progress.core.pc));
         }
         before
     }

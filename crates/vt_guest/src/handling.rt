@@ -68,7 +68,7 @@ impl Progress {
         ];
         Progress {
             core: Core {
-                place: entry,
+                pc: entry,
                 registers,
                 stack: blank_stack(),
             },

@@ -3,7 +3,7 @@
 ghost use Rattle.std.specs.Prelude.{◌≡◌, ◌⊎◌, ◌+◌, ◌≤◌, ◌^◌, None, Some, true, IfOk, IfErr, MatchResult, length, option_map, codes};
 ghost use Rattle.std.specs.Option.{IfNone, IsSome};
 ghost use Rattle.std.specs.String.{string_bytes};
-ghost use Rattle.vt_riscv.specs.declared.places.TheConstants.{IMAGE, STATE};
+ghost use Rattle.vt_riscv.specs.declared.layout.TheConstants.{IMAGE, STATE};
 ghost use Rattle.vt_elf.specs.promise.Symbols.{function_named, object_named};
 ghost use Rattle.vt_guest.specs.promise.Loading.{is_inside, is_number, with_number, with_found, with_sets, object_fault, set_fault, sets_fault, number_in, number_of_object, processes_object, processes_fault, entries_wrong, set_refused, IsExecutableRefused, IsAssembled, IsLoaded, IsRefused};
 ghost use Rattle.vt_guest.specs.declared.loading.Refusal.TheVariants.{Memory};
@@ -124,13 +124,13 @@ fn find_entries(symbols: &Symbols) -> Result<Entries, Refusal>
     ensures finish { IfOk result (λ entries. Some entries.finish ≡ function_named symbols.now (codes "finish")) }
     ensures fault { MatchResult result (λ _. entries_wrong symbols.now ≡ None) (λ refusal. entries_wrong symbols.now ≡ Some refusal) }
 {
-    let Some(start) = symbols.place_of(b"start") else {
+    let Some(start) = symbols.address_of(b"start") else {
         return Err(Refusal::NoStart);
     };
-    let Some(forward) = symbols.place_of(b"forward") else {
+    let Some(forward) = symbols.address_of(b"forward") else {
         return Err(Refusal::NoForward);
     };
-    let Some(finish) = symbols.place_of(b"finish") else {
+    let Some(finish) = symbols.address_of(b"finish") else {
         return Err(Refusal::NoFinish);
     };
     Ok(Entries {
@@ -145,9 +145,9 @@ fn is_inside(base: u64, size: usize, object: Object) -> bool
     ensures { result ≡ is_inside base size object }
 {
     let size = size as u64;
-    object.place >= base
-        && object.place - base <= size
-        && object.size <= size - (object.place - base)
+    object.address >= base
+        && object.address - base <= size
+        && object.size <= size - (object.address - base)
 }
 
 // Why an object can't be read, where image and state have so many bytes.
@@ -172,7 +172,7 @@ fn put(base: u64, bytes: &mut [u8], object: Object, value: u64)
     if !is_inside(base, bytes.len(), object) {
         return;
     }
-    let at = (object.place - base) as usize;
+    let at = (object.address - base) as usize;
     if object.size == 4 {
         let low = (value % 0x1_0000_0000) as u32;
         bytes[at..at + 4].copy_from_slice(&low.to_le_bytes());
@@ -230,7 +230,7 @@ fn number_in(base: u64, bytes: &[u8], object: Object) -> u64
     requires number { is_number object ≡ true }
     ensures { result ≡ number_in base object bytes.now }
 {
-    let at = (object.place - base) as usize;
+    let at = (object.address - base) as usize;
     if object.size == 4 {
         return u64::from(u32::from_le_bytes([
             bytes[at],

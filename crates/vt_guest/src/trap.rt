@@ -11,12 +11,12 @@ pub const TRAP: u32 = 0xffff_ffff;
 /// Why a handler trapped.
 #[derive(Debug, Clone, Copy, PartialEq, Eq)]
 pub enum Reason {
-    /// It jumped to a place at which no instruction may begin, or at which there is none.
+    /// It jumped to an address at which no instruction may begin, or at which there is none.
     BadJump,
     /// What stands there isn't an instruction.
     BadInstruction,
     /// It read or wrote what isn't memory, or wrote what is only read.
-    BadPlace,
+    BadAddress,
     /// The simulator has no such call, or not with these arguments, or not in this handler.
     BadCall,
     /// It sent, recorded or drew more than its handler may.
@@ -37,7 +37,7 @@ impl Reason {
         match self {
             Reason::BadJump => 1,
             Reason::BadInstruction => 2,
-            Reason::BadPlace => 3,
+            Reason::BadAddress => 3,
             Reason::BadCall => 4,
             Reason::TooMany => 5,
             Reason::BadSend => 6,
@@ -54,14 +54,14 @@ pub(crate) fn reason_of(trap: Trap) -> Reason
     match trap {
         Trap::BadJump => Reason::BadJump,
         Trap::BadInstruction => Reason::BadInstruction,
-        Trap::BadPlace => Reason::BadPlace,
+        Trap::BadAddress => Reason::BadAddress,
         Trap::Breakpoint => Reason::Breakpoint,
     }
 }
 
-/// The value of a trap's record: the reason's number times 2^32, and the low 32 bits of the place.
-pub(crate) fn trap_value(reason: Reason, place: u64) -> u64
-    ensures { result ≡ trap_value reason place }
+/// The value of a trap's record: the reason's number times 2^32, and the low 32 bits of the address.
+pub(crate) fn trap_value(reason: Reason, address: u64) -> u64
+    ensures { result ≡ trap_value reason address }
 {
-    reason.number() * 0x1_0000_0000 + place % 0x1_0000_0000
+    reason.number() * 0x1_0000_0000 + address % 0x1_0000_0000
 }

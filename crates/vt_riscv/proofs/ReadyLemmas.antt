@@ -5,18 +5,18 @@ use Rattle.std.proofs.Math.Seq.{get_or-append_seam}
 use Rattle.std.proofs.lemmas.Bool.{cases_lt}
 use Rattle.vt_riscv.specs.declared.instruction.Instruction.{Instruction}
 use Rattle.vt_riscv.specs.declared.ready.Head.{Head}
-use Rattle.vt_riscv.specs.inside.Readiness.{place_at, step_of, ended, head_at, instruction_of, IsSmall, IsMade, IsReady, IsAimed}
+use Rattle.vt_riscv.specs.inside.Readiness.{address_at, step_of, ended, head_at, instruction_of, IsSmall, IsMade, IsReady, IsAimed}
 
 module _ (compressed : Bool) (list : List Instruction) where
-  -- only the head and the place of the one behind it tell
-  moved : (xs ys : List Head) (k m n : ℕ) → IsReady compressed list xs m k → head_at xs k ≡ head_at ys k → (head_at xs (k + 1)).place ≡ (head_at ys (k + 1)).place → m ≡ n
+  -- only the head and the index of the one behind it tell
+  moved : (xs ys : List Head) (k m n : ℕ) → IsReady compressed list xs m k → head_at xs k ≡ head_at ys k → (head_at xs (k + 1)).index ≡ (head_at ys (k + 1)).index → m ≡ n
       → k + 1 < length ys → IsReady compressed list ys n k
   moved xs ys k m n is same behind immediate within = record {
     small = subst IsSmall same is.small;
-    aligned = subst (λ (r : Head). place_at r.place % (if compressed then 2 else 4) ≡ 0) same is.aligned;
+    aligned = subst (λ (r : Head). address_at r.index % (if compressed then 2 else 4) ≡ 0) same is.aligned;
     followed = λ good.
         let f = is.followed (λ bad. good (ap (λ (r : Head). r.operation) (sym same) ∙ bad)) in
-        let there : (head_at xs k).place ≡ (head_at ys k).place = ap (λ (r : Head). r.place) same in record {
+        let there : (head_at xs k).index ≡ (head_at ys k).index = ap (λ (r : Head). r.index) same in record {
           there = ap (slice_get list) (sym there) ∙ f.there ∙ (λ j. Some (instruction_of (same j) (behind j) (immediate j)));
           behind = omega (arith, there, behind, f.behind);
           next = within;
@@ -25,22 +25,22 @@ module _ (compressed : Bool) (list : List Instruction) where
   }
 
   -- what ends the instructions is `Bad`
-  end_ready : (xs : List Head) (k m place : ℕ) → head_at xs k ≡ ended place → place_at place % (if compressed then 2 else 4) ≡ 0 → IsReady compressed list xs m k
-  end_ready xs k m place is even = record {
+  end_ready : (xs : List Head) (k m index : ℕ) → head_at xs k ≡ ended index → address_at index % (if compressed then 2 else 4) ≡ 0 → IsReady compressed list xs m k
+  end_ready xs k m index is even = record {
     small = subst IsSmall (sym is) (record { destination = omega arith; first = omega arith; second = omega arith });
-    aligned = subst (λ (r : Head). place_at r.place % (if compressed then 2 else 4) ≡ 0) (sym is) even;
+    aligned = subst (λ (r : Head). address_at r.index % (if compressed then 2 else 4) ≡ 0) (sym is) even;
     followed = λ good. absurd (good (ap (λ (r : Head). r.operation) is));
   }
 
-  -- an instruction that was made
-  made_ready : (xs : List Head) (k place : ℕ) (i : Instruction) (r : Head) → head_at xs k ≡ r → IsMade compressed i place r → slice_get list place ≡ Some i
-      → place_at place % (if compressed then 2 else 4) ≡ 0 → (head_at xs (k + 1)).place ≡ place + step_of compressed i.length → place + step_of compressed i.length < 2 ^ 32 → k + 1 < length xs
+  -- an instruction that was made is ready
+  made_ready : (xs : List Head) (k index : ℕ) (i : Instruction) (r : Head) → head_at xs k ≡ r → IsMade compressed i index r → slice_get list index ≡ Some i
+      → address_at index % (if compressed then 2 else 4) ≡ 0 → (head_at xs (k + 1)).index ≡ index + step_of compressed i.length → index + step_of compressed i.length < 2 ^ 32 → k + 1 < length xs
       → IsReady compressed list xs i.immediate k
-  made_ready xs k place i r is made there even behind few within = record {
+  made_ready xs k index i r is made there even behind few within = record {
     small = subst IsSmall (sym is) made.small;
-    aligned = subst (λ (p : ℕ). place_at p % (if compressed then 2 else 4) ≡ 0) (sym (ap (λ (h : Head). h.place) is ∙ made.here)) even;
+    aligned = subst (λ (p : ℕ). address_at p % (if compressed then 2 else 4) ≡ 0) (sym (ap (λ (h : Head). h.index) is ∙ made.here)) even;
     followed = λ good.
-        let at : (head_at xs k).place ≡ place = ap (λ (h : Head). h.place) is ∙ made.here in
+        let at : (head_at xs k).index ≡ index = ap (λ (h : Head). h.index) is ∙ made.here in
         let stands = made.stands (λ bad. good (ap (λ (h : Head). h.operation) is ∙ bad)) in record {
           there = ap (slice_get list) at ∙ there ∙ ap Some stands ∙ (λ j. Some (instruction_of (sym is j) (sym behind j) i.immediate));
           behind = omega (arith, at, behind);
@@ -49,11 +49,11 @@ module _ (compressed : Bool) (list : List Instruction) where
         };
   }
 
-  module _ (heads : List Head) (immediates : List ℕ) (place : ℕ) (many : length immediates ≡ length heads)
-      (each : (k : ℕ) → k < length heads → IsReady compressed list (heads ++ ended place ∷ []) (slice_index immediates k) k)
-      (even : place_at place % (if compressed then 2 else 4) ≡ 0) where
-    -- of one more instruction
-    pub one_more : (i : Instruction) (r : Head) (behind : ℕ) → IsMade compressed i place r → slice_get list place ≡ Some i → behind ≡ place + step_of compressed i.length → behind < 2 ^ 32
+  module _ (heads : List Head) (immediates : List ℕ) (index : ℕ) (many : length immediates ≡ length heads)
+      (each : (k : ℕ) → k < length heads → IsReady compressed list (heads ++ ended index ∷ []) (slice_index immediates k) k)
+      (even : address_at index % (if compressed then 2 else 4) ≡ 0) where
+    -- with one more instruction all are ready
+    pub one_more : (i : Instruction) (r : Head) (behind : ℕ) → IsMade compressed i index r → slice_get list index ≡ Some i → behind ≡ index + step_of compressed i.length → behind < 2 ^ 32
         → (k : ℕ) → k < length (heads ++ r ∷ []) → IsReady compressed list ((heads ++ r ∷ []) ++ ended behind ∷ []) (slice_index (immediates ++ i.immediate ∷ []) k) k
     one_more i r behind made there step few k inside =
         let all = (heads ++ r ∷ []) ++ ended behind ∷ [] in
@@ -63,47 +63,47 @@ module _ (compressed : Bool) (list : List Instruction) where
         let new : head_at all (length heads) ≡ r = get_or_append_left (heads ++ r ∷ []) (ended behind ∷ []) (ended 0) (length heads) (omega (arith, long)) ∙ get_or-append_seam heads r [] (ended 0) in
         elim (cases_lt k (length heads)) [
           | inl old ↦ (
-              let kept : head_at (heads ++ ended place ∷ []) k ≡ head_at all k =
-              get_or_append_left heads (ended place ∷ []) (ended 0) k old
+              let kept : head_at (heads ++ ended index ∷ []) k ≡ head_at all k =
+              get_or_append_left heads (ended index ∷ []) (ended 0) k old
               ∙ sym (get_or_append_left (heads ++ r ∷ []) (ended behind ∷ []) (ended 0) k (omega (arith, old, long)) ∙ get_or_append_left heads (r ∷ []) (ended 0) k old) in
-              let next : (head_at (heads ++ ended place ∷ []) (k + 1)).place ≡ (head_at all (k + 1)).place = elim (cases_lt (k + 1) (length heads)) [
-                | inl before ↦ ap (λ (h : Head). h.place) (
-                    get_or_append_left heads (ended place ∷ []) (ended 0) (k + 1) before
+              let next : (head_at (heads ++ ended index ∷ []) (k + 1)).index ≡ (head_at all (k + 1)).index = elim (cases_lt (k + 1) (length heads)) [
+                | inl before ↦ ap (λ (h : Head). h.index) (
+                    get_or_append_left heads (ended index ∷ []) (ended 0) (k + 1) before
                     ∙ sym (get_or_append_left (heads ++ r ∷ []) (ended behind ∷ []) (ended 0) (k + 1) (omega (arith, before, long)) ∙ get_or_append_left heads (r ∷ []) (ended 0) (k + 1) before))
                 | inr last ↦ (
                     let at : k + 1 ≡ length heads = omega (arith, old, last) in
-                    ap (λ (n : ℕ). (head_at (heads ++ ended place ∷ []) n).place) at
-                    ∙ ap (λ (h : Head). h.place) (get_or-append_seam heads (ended place) [] (ended 0))
-                    ∙ sym (ap (λ (n : ℕ). (head_at all n).place) at ∙ ap (λ (h : Head). h.place) new ∙ made.here))
+                    ap (λ (n : ℕ). (head_at (heads ++ ended index ∷ []) n).index) at
+                    ∙ ap (λ (h : Head). h.index) (get_or-append_seam heads (ended index) [] (ended 0))
+                    ∙ sym (ap (λ (n : ℕ). (head_at all n).index) at ∙ ap (λ (h : Head). h.index) new ∙ made.here))
               ] in
               let same : slice_index immediates k ≡ slice_index (immediates ++ i.immediate ∷ []) k = sym (get_or_append_left immediates (i.immediate ∷ []) 0 k (omega (arith, old, many))) in
-              moved (heads ++ ended place ∷ []) all k (slice_index immediates k) (slice_index (immediates ++ i.immediate ∷ []) k) (each k old) kept next same (omega (arith, old, whole)))
+              moved (heads ++ ended index ∷ []) all k (slice_index immediates k) (slice_index (immediates ++ i.immediate ∷ []) k) (each k old) kept next same (omega (arith, old, whole)))
           | inr past ↦ (
               let at : length heads ≡ k = omega (arith, past, inside, long) in
               let seam : slice_index (immediates ++ i.immediate ∷ []) (length heads) ≡ i.immediate = ap (slice_index (immediates ++ i.immediate ∷ [])) (sym many) ∙ get_or-append_seam immediates i.immediate [] 0 in
-              let after : (head_at all (length heads + 1)).place ≡ behind = ap (λ (n : ℕ). (head_at all n).place) (sym long) ∙ ap (λ (h : Head). h.place) (get_or-append_seam (heads ++ r ∷ []) (ended behind) [] (ended 0)) in
-              let is = made_ready all (length heads) place i r new made there even (after ∙ step) (omega (arith, step, few)) (omega (arith, whole)) in
+              let after : (head_at all (length heads + 1)).index ≡ behind = ap (λ (n : ℕ). (head_at all n).index) (sym long) ∙ ap (λ (h : Head). h.index) (get_or-append_seam (heads ++ r ∷ []) (ended behind) [] (ended 0)) in
+              let is = made_ready all (length heads) index i r new made there even (after ∙ step) (omega (arith, step, few)) (omega (arith, whole)) in
               subst (λ (n : ℕ). IsReady compressed list all (slice_index (immediates ++ i.immediate ∷ []) n) n) at (subst (λ (m : ℕ). IsReady compressed list all m (length heads)) (sym seam) is))
         ]
 
-    -- of all of them
-    pub closed : (k : ℕ) → k < length (heads ++ ended place ∷ []) → IsReady compressed list (heads ++ ended place ∷ []) (slice_index (immediates ++ 0 ∷ []) k) k
+    -- with what ends them all are ready
+    pub closed : (k : ℕ) → k < length (heads ++ ended index ∷ []) → IsReady compressed list (heads ++ ended index ∷ []) (slice_index (immediates ++ 0 ∷ []) k) k
     closed k inside =
-        let long : length (heads ++ ended place ∷ []) ≡ length heads + 1 = length-append heads (ended place ∷ []) in
+        let long : length (heads ++ ended index ∷ []) ≡ length heads + 1 = length-append heads (ended index ∷ []) in
         elim (cases_lt k (length heads)) [
-          | inl old ↦ subst (λ (m : ℕ). IsReady compressed list (heads ++ ended place ∷ []) m k) (sym (get_or_append_left immediates (0 ∷ []) 0 k (omega (arith, old, many)))) (each k old)
+          | inl old ↦ subst (λ (m : ℕ). IsReady compressed list (heads ++ ended index ∷ []) m k) (sym (get_or_append_left immediates (0 ∷ []) 0 k (omega (arith, old, many)))) (each k old)
           | inr past ↦ (
               let at : k ≡ length heads = omega (arith, past, inside, long) in
-              let last : head_at (heads ++ ended place ∷ []) k ≡ ended place = ap (head_at (heads ++ ended place ∷ [])) at ∙ get_or-append_seam heads (ended place) [] (ended 0) in
-              end_ready (heads ++ ended place ∷ []) k (slice_index (immediates ++ 0 ∷ []) k) place last even)
+              let last : head_at (heads ++ ended index ∷ []) k ≡ ended index = ap (head_at (heads ++ ended index ∷ [])) at ∙ get_or-append_seam heads (ended index) [] (ended 0) in
+              end_ready (heads ++ ended index ∷ []) k (slice_index (immediates ++ 0 ∷ []) k) index last even)
         ]
 
--- the place behind an instruction is one at which another may begin
-pub even_on : (compressed : Bool) (place length : ℕ) → place_at place % (if compressed then 2 else 4) ≡ 0 → place_at (place + step_of compressed length) % (if compressed then 2 else 4) ≡ 0
-even_on true place length even = omega arith
-even_on false place length even = omega (arith, even)
+-- the address behind an instruction is one at which another may begin
+pub even_on : (compressed : Bool) (index length : ℕ) → address_at index % (if compressed then 2 else 4) ≡ 0 → address_at (index + step_of compressed length) % (if compressed then 2 else 4) ≡ 0
+even_on true index length even = omega arith
+even_on false index length even = omega (arith, even)
 
--- of one more instruction that leads somewhere
+-- with one more instruction all lead where they have to
 pub one_aimed : (heads : List Head) (immediates targets : List ℕ) (new : ℕ) → ((k : ℕ) → k < length targets → IsAimed heads (slice_index immediates k) (slice_index targets k) k)
     → IsAimed heads (slice_index immediates (length targets)) new (length targets) → (k : ℕ) → k < length (targets ++ new ∷ []) → IsAimed heads (slice_index immediates k) (slice_index (targets ++ new ∷ []) k) k
 one_aimed heads immediates targets new each last k inside = elim (cases_lt k (length targets)) [

@@ -4,7 +4,7 @@ ghost use Rattle.std.specs.Prelude.{◌≡◌, IsTrue, ◌↔◌};
 ghost use Rattle.std.specs.Int.{w32, w64};
 ghost use Rattle.vt_riscv.specs.promise.Arithmetic.{low, sign_extended, sum_of_words, difference_of_words, right_signed, left_of_word, right_of_word, right_signed_of_word, less_signed, product_of_words, doubled, upper_signed, upper_mixed, upper_unsigned, quotient, rest, quotient_signed, rest_signed, quotient_of_words, rest_of_words, signed_quotient_of_words, signed_rest_of_words};
 
-// The low 32 bits.
+// The low 32 bits of a number.
 #[inline]
 fn low(x: u64) -> u32
     ensures { result ≡ low x }
@@ -34,7 +34,7 @@ pub(crate) fn difference_of_words(x: u64, y: u64) -> u64
     sign_extended(low(x).wrapping_sub(low(y)))
 }
 
-/// Shifted to the right, with copies of the sign.
+/// A number shifted to the right, with copies of its sign.
 #[inline]
 pub(crate) fn right_signed(x: u64, by: u64) -> u64
     ensures { result ≡ right_signed x by }
@@ -152,7 +152,7 @@ pub(crate) fn rest_signed(x: u64, y: u64) -> u64
     }
 }
 
-// The same of words.
+// A quotient of words, which is all ones where the divisor is zero.
 #[inline]
 fn word_quotient(x: u32, y: u32) -> u32
     ensures { result ≡ quotient w32 x y }

@@ -14,7 +14,7 @@ use std::vec::Vec;
 /// A program: its instructions, and the bytes that it reads and can't change. One serves any number of machines.
 #[derive(Drop)]
 pub struct Code {
-    /// The instruction at each even place from `IMAGE` on.
+    /// The instruction at each even address from `IMAGE` on.
     pub instructions: Vec<Instruction>,
     // Some of these once more, as many steps in a row want them.
     pub(crate) ready: Ready,
@@ -22,7 +22,7 @@ pub struct Code {
     pub image: Vec<u8>,
     /// The bytes from `DATA` on.
     pub input: Vec<u8>,
-    /// Whether instructions may be compressed. They may lie at any even place then, and else at multiples of 4.
+    /// Whether instructions may be compressed. They may lie at any even address then, and else at multiples of 4.
     pub compressed: bool,
     ghost readied: { AreReady compressed instructions.items ready.heads.items ready.immediates.items ready.targets.items },
 }
@@ -53,7 +53,7 @@ impl Code {
     }
 }
 
-// The instruction of 32 bits at a place.
+// The instruction of 32 bits at an offset in a code.
 fn long_at(bytes: &[u8], at: usize) -> Instruction
     requires { at + 2 ≤ length bytes.now }
     ensures { result ≡ long_at bytes.now at }
@@ -65,7 +65,7 @@ fn long_at(bytes: &[u8], at: usize) -> Instruction
     }
 }
 
-// The instruction of 16 bits, where there may be any.
+// The instruction that 16 bits stand for, where there may be compressed ones.
 fn short(half: u16, compressed: bool) -> Instruction
     ensures { result ≡ short_of compressed half }
 {
@@ -76,7 +76,7 @@ fn short(half: u16, compressed: bool) -> Instruction
     }
 }
 
-// The instruction at a place, by its first 16 bits.
+// The instruction at an offset in a code, by its first 16 bits.
 fn instruction_with(bytes: &[u8], at: usize, half: u16, compressed: bool) -> Instruction
     requires { at + 2 ≤ length bytes.now }
     ensures { result ≡ instruction_with compressed bytes.now at half }
@@ -88,7 +88,7 @@ fn instruction_with(bytes: &[u8], at: usize, half: u16, compressed: bool) -> Ins
     }
 }
 
-// The instruction at a place of a code.
+// The instruction at an offset in a code.
 fn instruction_at(bytes: &[u8], at: usize, compressed: bool) -> Instruction
     requires { at + 2 ≤ length bytes.now }
     ensures { result ≡ instruction_at compressed bytes.now at }
@@ -96,7 +96,7 @@ fn instruction_at(bytes: &[u8], at: usize, compressed: bool) -> Instruction
     instruction_with(bytes, at, half(bytes, at), compressed)
 }
 
-// The instruction at each even place of a code.
+// The instruction at each even offset in a code.
 fn instructions(
     alloc: Global,
     bytes: &[u8],
@@ -106,10 +106,10 @@ fn instructions(
 {
     let count = bytes.len() / 2;
     let mut list = Vec::new(alloc);
-    let mut place = 0;
-    'places: while place < count {
-        list.push(instruction_at(bytes, 2 * place, compressed))?;
-        place += 1;
+    let mut index = 0;
+    'indices: while index < count {
+        list.push(instruction_at(bytes, 2 * index, compressed))?;
+        index += 1;
     }
     Ok(list)
 }

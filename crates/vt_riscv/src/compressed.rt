@@ -1,4 +1,4 @@
-//! Compressed instructions from halves.
+//! Decodes halves of 16 bits to compressed instructions.
 
 ghost use Rattle.std.specs.Prelude.{◌≡◌};
 ghost use Rattle.vt_riscv.specs.promise.Compressed.{rd_in, rs2_in, high_in, low_in, lwsp_offset, ldsp_offset, swsp_offset, sdsp_offset, word_offset, double_offset, jump_offset, branch_offset, amount_in, immediate_in, upper_in, addi16sp_immediate, addi4spn_immediate, short, no_instruction, unless_reserved, quadrant_0, upper_of, registers_of, arithmetic_of, quadrant_1, move_of, quadrant_2, by_quadrant, decode_compressed_of};
@@ -6,33 +6,35 @@ ghost use Rattle.vt_riscv.specs.promise.Compressed.{rd_in, rs2_in, high_in, low_
 use crate::decoding::by_sign;
 use crate::{Instruction, Operation};
 
-// The registers of a half.
+// The register that bits 7 to 11 of a half name.
 fn rd(h: u32) -> u8
     ensures { result ≡ rd_in h }
 {
     (h / 0x80 % 0x20) as u8
 }
 
+// The register that bits 2 to 6 of a half name.
 fn rs2(h: u32) -> u8
     ensures { result ≡ rs2_in h }
 {
     (h / 0x4 % 0x20) as u8
 }
 
-// Those that three bits name.
+// The register, from 8 to 15, that bits 7 to 9 of a half name.
 fn high(h: u32) -> u8
     ensures { result ≡ high_in h }
 {
     (8 + h / 0x80 % 0x8) as u8
 }
 
+// The register, from 8 to 15, that bits 2 to 4 of a half name.
 fn low(h: u32) -> u8
     ensures { result ≡ low_in h }
 {
     (8 + h / 0x4 % 0x8) as u8
 }
 
-// Offsets of loads and stores.
+// The offset of C.LWSP from the stack pointer.
 #[tactic(auto, unfolding(crate::specs::promise::Compressed::lwsp_offset))]
 fn lwsp_offset(h: u32) -> u64
     ensures { result ≡ lwsp_offset h }
@@ -40,6 +42,7 @@ fn lwsp_offset(h: u32) -> u64
     u64::from(h / 0x1000 % 0x2 * 0x20 + h / 0x10 % 0x8 * 0x4 + h / 0x4 % 0x4 * 0x40)
 }
 
+// The offset of C.LDSP from the stack pointer.
 #[tactic(auto, unfolding(crate::specs::promise::Compressed::ldsp_offset))]
 fn ldsp_offset(h: u32) -> u64
     ensures { result ≡ ldsp_offset h }
@@ -47,6 +50,7 @@ fn ldsp_offset(h: u32) -> u64
     u64::from(h / 0x1000 % 0x2 * 0x20 + h / 0x20 % 0x4 * 0x8 + h / 0x4 % 0x8 * 0x40)
 }
 
+// The offset of C.SWSP from the stack pointer.
 #[tactic(auto, unfolding(crate::specs::promise::Compressed::swsp_offset))]
 fn swsp_offset(h: u32) -> u64
     ensures { result ≡ swsp_offset h }
@@ -54,6 +58,7 @@ fn swsp_offset(h: u32) -> u64
     u64::from(h / 0x200 % 0x10 * 0x4 + h / 0x80 % 0x4 * 0x40)
 }
 
+// The offset of C.SDSP from the stack pointer.
 #[tactic(auto, unfolding(crate::specs::promise::Compressed::sdsp_offset))]
 fn sdsp_offset(h: u32) -> u64
     ensures { result ≡ sdsp_offset h }
@@ -61,6 +66,7 @@ fn sdsp_offset(h: u32) -> u64
     u64::from(h / 0x400 % 0x8 * 0x8 + h / 0x80 % 0x8 * 0x40)
 }
 
+// The offset of C.LW and C.SW from a register.
 #[tactic(auto, unfolding(crate::specs::promise::Compressed::word_offset))]
 fn word_offset(h: u32) -> u64
     ensures { result ≡ word_offset h }
@@ -68,6 +74,7 @@ fn word_offset(h: u32) -> u64
     u64::from(h / 0x400 % 0x8 * 0x8 + h / 0x40 % 0x2 * 0x4 + h / 0x20 % 0x2 * 0x40)
 }
 
+// The offset of C.LD and C.SD from a register.
 #[tactic(auto, unfolding(crate::specs::promise::Compressed::double_offset))]
 fn double_offset(h: u32) -> u64
     ensures { result ≡ double_offset h }
@@ -75,7 +82,7 @@ fn double_offset(h: u32) -> u64
     u64::from(h / 0x400 % 0x8 * 0x8 + h / 0x20 % 0x4 * 0x40)
 }
 
-// How far jumps and branches lead.
+// How far C.J leads.
 #[tactic(auto, unfolding(crate::specs::promise::Compressed::jump_offset))]
 fn jump_offset(h: u32) -> u64
     ensures { result ≡ jump_offset h }
@@ -91,6 +98,7 @@ fn jump_offset(h: u32) -> u64
     by_sign(x, 0x800)
 }
 
+// How far C.BEQZ and C.BNEZ lead.
 #[tactic(auto, unfolding(crate::specs::promise::Compressed::branch_offset))]
 fn branch_offset(h: u32) -> u64
     ensures { result ≡ branch_offset h }
@@ -103,26 +111,28 @@ fn branch_offset(h: u32) -> u64
     by_sign(x, 0x100)
 }
 
-// A shift amount of six bits.
+// The amount of a shift, which has six bits.
 fn amount(h: u32) -> u32
     ensures { result ≡ amount_in h }
 {
     h / 0x1000 % 0x2 * 0x20 + h / 0x4 % 0x20
 }
 
-// Immediates.
+// The immediate of C.ADDI and its like, which has six bits.
 fn immediate(h: u32) -> u64
     ensures { result ≡ immediate_in h }
 {
     by_sign(amount(h), 0x20)
 }
 
+// The immediate of C.LUI.
 fn upper_immediate(h: u32) -> u64
     ensures { result ≡ upper_in h }
 {
     by_sign(amount(h) * 0x1000, 0x2_0000)
 }
 
+// The immediate of C.ADDI16SP.
 #[tactic(auto, unfolding(crate::specs::promise::Compressed::addi16sp_immediate))]
 fn addi16sp_immediate(h: u32) -> u64
     ensures { result ≡ addi16sp_immediate h }
@@ -135,6 +145,7 @@ fn addi16sp_immediate(h: u32) -> u64
     by_sign(x, 0x200)
 }
 
+// The immediate of C.ADDI4SPN.
 #[tactic(auto, unfolding(crate::specs::promise::Compressed::addi4spn_immediate))]
 fn addi4spn_immediate(h: u32) -> u64
     ensures { result ≡ addi4spn_immediate h }
@@ -147,7 +158,7 @@ fn addi4spn_immediate(h: u32) -> u64
     )
 }
 
-// An instruction of this length, with its result's register, the two that it reads, and its immediate.
+// A compressed instruction, with its result's register, the two that it reads, and its immediate.
 fn short(
     operation: Operation,
     destination: u8,
@@ -167,13 +178,14 @@ fn short(
     }
 }
 
+// An instruction of two bytes that is `Bad`.
 fn no_instruction() -> Instruction
     ensures { result ≡ no_instruction }
 {
     short(Operation::Bad, 0, 0, 0, 0)
 }
 
-// An instruction, unless it is reserved.
+// An instruction, or none where it is reserved.
 fn unless_reserved(reserved: bool, instruction: Instruction) -> Instruction
     ensures { result ≡ unless_reserved reserved instruction }
 {
@@ -184,6 +196,7 @@ fn unless_reserved(reserved: bool, instruction: Instruction) -> Instruction
     }
 }
 
+// The instruction of a half of quadrant 0, by its upper three bits.
 #[tactic(auto, unfolding(crate::specs::promise::Compressed::quadrant_0))]
 fn quadrant_0(h: u32, n: u32) -> Instruction
     ensures { result ≡ quadrant_0 h n }
@@ -201,7 +214,7 @@ fn quadrant_0(h: u32, n: u32) -> Instruction
     }
 }
 
-// C.ADDI16SP and C.LUI.
+// The instruction C.ADDI16SP or C.LUI.
 #[tactic(auto, unfolding(crate::specs::promise::Compressed::upper_of))]
 fn upper(h: u32, rd: u8) -> Instruction
     ensures { result ≡ upper_of h rd }
@@ -214,7 +227,7 @@ fn upper(h: u32, rd: u8) -> Instruction
     unless_reserved(amount(h) == 0, instruction)
 }
 
-// Of two registers.
+// The operation of an instruction of two registers.
 #[tactic(auto, unfolding(crate::specs::promise::Compressed::registers_of))]
 fn registers(words: u32, n: u32) -> Operation
     ensures { result ≡ registers_of words n }
@@ -235,6 +248,7 @@ fn registers(words: u32, n: u32) -> Operation
     }
 }
 
+// The instruction of a half that computes with registers from 8 to 15.
 #[tactic(auto, unfolding(crate::specs::promise::Compressed::arithmetic_of))]
 fn arithmetic(h: u32, n: u32) -> Instruction
     ensures { result ≡ arithmetic_of h n }
@@ -248,6 +262,7 @@ fn arithmetic(h: u32, n: u32) -> Instruction
     }
 }
 
+// The instruction of a half of quadrant 1, by its upper three bits.
 #[tactic(auto, unfolding(crate::specs::promise::Compressed::quadrant_1))]
 fn quadrant_1(h: u32, n: u32) -> Instruction
     ensures { result ≡ quadrant_1 h n }
@@ -265,7 +280,7 @@ fn quadrant_1(h: u32, n: u32) -> Instruction
     }
 }
 
-// C.JR and C.MV, or C.EBREAK, C.JALR and C.ADD.
+// The instruction C.JR or C.MV, or where `adds` isn't 0, C.EBREAK, C.JALR or C.ADD.
 #[tactic(auto, unfolding(crate::specs::promise::Compressed::move_of))]
 fn move_or_jump(rd: u8, rs2: u8, adds: u32) -> Instruction
     ensures { result ≡ move_of rd rs2 adds }
@@ -285,6 +300,7 @@ fn move_or_jump(rd: u8, rs2: u8, adds: u32) -> Instruction
     }
 }
 
+// The instruction of a half of quadrant 2, by its upper three bits.
 #[tactic(auto, unfolding(crate::specs::promise::Compressed::quadrant_2))]
 fn quadrant_2(h: u32, n: u32) -> Instruction
     ensures { result ≡ quadrant_2 h n }
@@ -301,6 +317,7 @@ fn quadrant_2(h: u32, n: u32) -> Instruction
     }
 }
 
+// The instruction of a half, by its quadrant.
 fn by_quadrant(h: u32, n: u32) -> Instruction
     ensures { result ≡ by_quadrant h n }
 {

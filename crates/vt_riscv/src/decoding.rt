@@ -1,4 +1,4 @@
-//! Instructions from words.
+//! Decodes words of 32 bits to instructions.
 
 ghost use Rattle.std.specs.Prelude.{◌≡◌};
 ghost use Rattle.vt_riscv.specs.promise.Decoding.{by_sign, rd_of, rs1_of, rs2_of, i_immediate, s_immediate, b_immediate, u_immediate, j_immediate, r_type, i_type, s_type, b_type, u_type, j_type, shift_type, plain, branch_of, load_of, store_of, op_imm_of, op_imm_32_of, op_base_of, op_other_of, op_mul_of, op_of, op_32_base_of, op_32_other_of, op_32_mul_of, op_32_of, jalr_of, fence_of, system_of, decode_of};
@@ -17,19 +17,21 @@ pub(crate) fn by_sign(x: u32, half: u64) -> u64
     }
 }
 
-// The registers of a word.
+// The register that bits 7 to 11 of a word name.
 fn rd(w: u32) -> u8
     ensures { result ≡ rd_of w }
 {
     (w / 0x80 % 32) as u8
 }
 
+// The register that bits 15 to 19 of a word name.
 fn rs1(w: u32) -> u8
     ensures { result ≡ rs1_of w }
 {
     (w / 0x8000 % 32) as u8
 }
 
+// The register that bits 20 to 24 of a word name.
 fn rs2(w: u32) -> u8
     ensures { result ≡ rs2_of w }
 {
@@ -127,7 +129,7 @@ fn j_type(operation: Operation, w: u32) -> Instruction
     }
 }
 
-// A shift by so many bits.
+// An instruction that shifts by `amount` bits.
 #[tactic(auto, unfolding(crate::specs::promise::Decoding::shift_type))]
 fn shift_type(operation: Operation, w: u32, amount: u32) -> Instruction
     ensures { result ≡ shift_type operation w amount }
@@ -142,7 +144,7 @@ fn shift_type(operation: Operation, w: u32, amount: u32) -> Instruction
     }
 }
 
-// An instruction without fields.
+// An instruction that has no registers and no immediate.
 pub(crate) fn plain(operation: Operation) -> Instruction
     ensures { result ≡ plain operation }
 {
@@ -197,7 +199,7 @@ fn store(f3: u32) -> Operation
     }
 }
 
-// OP-IMM.
+// The instruction of a word whose major opcode is OP-IMM, by funct3.
 #[tactic(auto, unfolding(crate::specs::promise::Decoding::op_imm_of))]
 fn op_imm(w: u32, f3: u32) -> Instruction
     ensures { result ≡ op_imm_of w f3 }
@@ -228,7 +230,7 @@ fn op_imm(w: u32, f3: u32) -> Instruction
     }
 }
 
-// OP-IMM-32.
+// The instruction of a word whose major opcode is OP-IMM-32, by funct3.
 #[tactic(auto, unfolding(crate::specs::promise::Decoding::op_imm_32_of))]
 fn op_imm_32(w: u32, f3: u32) -> Instruction
     ensures { result ≡ op_imm_32_of w f3 }
@@ -295,7 +297,7 @@ fn op_mul(f3: u32) -> Operation
     }
 }
 
-// OP.
+// The operation of a word whose major opcode is OP, by funct7 and funct3.
 #[tactic(auto, unfolding(crate::specs::promise::Decoding::op_of))]
 fn op(f7: u32, f3: u32) -> Operation
     ensures { result ≡ op_of f7 f3 }
@@ -342,7 +344,7 @@ fn op_32_mul(f3: u32) -> Operation
     }
 }
 
-// OP-32.
+// The operation of a word whose major opcode is OP-32, by funct7 and funct3.
 #[tactic(auto, unfolding(crate::specs::promise::Decoding::op_32_of))]
 fn op_32(f7: u32, f3: u32) -> Operation
     ensures { result ≡ op_32_of f7 f3 }

@@ -17,11 +17,11 @@ use crate::{Operation, Trap};
 pub(crate) enum Effect {
     /// It puts a number into its register.
     Put(u64),
-    /// It puts the place that is its immediate away into its register.
-    PutPlace,
-    /// It jumps to the place that is its immediate away.
+    /// It puts the address that is its immediate away from pc into its register.
+    PutAddress,
+    /// It jumps to the address that is its immediate away from pc.
     Jump,
-    /// It jumps to the place that is its immediate away from its first register's.
+    /// It jumps to the address that is its immediate away from its first register's.
     JumpTo,
     /// It branches, if that is so.
     Branch(bool),
@@ -47,7 +47,7 @@ pub(crate) fn effect_of(operation: Operation, x: u64, y: u64, number: u64) -> Ef
     match operation {
         Operation::Bad => Effect::Fail(Trap::BadInstruction),
         Operation::Lui => Effect::Put(number),
-        Operation::Auipc => Effect::PutPlace,
+        Operation::Auipc => Effect::PutAddress,
         Operation::Jal => Effect::Jump,
         Operation::Jalr => Effect::JumpTo,
         Operation::Beq => Effect::Branch(x == y),

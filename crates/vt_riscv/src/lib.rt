@@ -8,9 +8,9 @@ mod compressed;
 mod decoding;
 mod effect;
 mod instruction;
+mod layout;
 mod machine;
 mod memory;
-mod places;
 mod ready;
 mod sprint;
 
@@ -18,5 +18,5 @@ pub use code::Code;
 pub use compressed::decode_compressed;
 pub use decoding::decode;
 pub use instruction::{Instruction, Operation};
+pub use layout::{DATA, IMAGE, RETURN, STACK, STATE};
 pub use machine::{Core, Outcome, Stop, Trap};
-pub use places::{DATA, IMAGE, RETURN, STACK, STATE};

@@ -8,15 +8,15 @@ use crate::effect::{Effect, effect_of};
 use crate::memory::{Size, extended, number_within, store, width};
 use crate::{Code, DATA, IMAGE, Instruction, RETURN, STACK, STATE};
 
-/// Why an instruction can't be done. The machine is as before it, at its place.
+/// Why an instruction can't be done. The machine is as before it, with pc at it.
 #[derive(Debug, Clone, Copy, PartialEq, Eq)]
 pub enum Trap {
-    /// It jumps to a place at which no instruction may begin, or there is no instruction at the machine's place.
+    /// It jumps to an address at which no instruction may begin, or there is no instruction at pc.
     BadJump,
     /// It isn't an instruction.
     BadInstruction,
     /// It reads or writes what isn't memory, or writes what is only read. All of a number lies in one part of memory.
-    BadPlace,
+    BadAddress,
     /// It is EBREAK.
     Breakpoint,
 }
@@ -24,7 +24,7 @@ pub enum Trap {
 /// Why a run stops.
 #[derive(Debug, Clone, Copy, PartialEq, Eq)]
 pub enum Stop {
-    /// The instruction is ECALL. The machine is as before it, at its place: [`Core::answer`] goes on behind it.
+    /// The instruction is ECALL. The machine is as before it, with pc at it: [`Core::answer`] goes on behind it.
     Called,
     /// The program came to `RETURN`.
     Ended,
@@ -43,47 +43,48 @@ pub struct Outcome {
     pub left: u64,
 }
 
-/// A machine but for its state: its place, its registers and its stack.
+/// A machine but for its state: its pc, its registers and its stack.
 #[derive(Clone, Copy)]
 pub struct Core {
-    /// The place of the next instruction.
-    pub place: u64,
+    /// The address of the next instruction.
+    pub pc: u64,
     /// The registers x0 to x31. The first stays 0.
     pub registers: [u64; 32],
     /// The bytes right below `STATE`.
     pub stack: [u8; STACK],
 }
 
-// Whether no instruction may begin at a place.
+// Whether no instruction may begin at an address.
 #[inline]
-pub(crate) fn is_misaligned(code: &Code, place: u64) -> bool
-    ensures { result ≡ is_misaligned code.now place }
+pub(crate) fn is_misaligned(code: &Code, address: u64) -> bool
+    ensures { result ≡ is_misaligned code.now address }
 {
     // The first test is the usual one.
-    if place % 4 == 0 {
+    if address % 4 == 0 {
         return false;
     }
     if code.compressed {
-        place % 2 != 0
+        address % 2 != 0
     } else {
         true
     }
 }
 
-// The instruction at a place, if one may stand there.
+// The instruction at an address, if one may stand there.
 #[inline]
-fn fetch(code: &Code, place: u64) -> Option<Instruction>
-    ensures { result ≡ fetch_of code.now place }
+fn fetch(code: &Code, address: u64) -> Option<Instruction>
+    ensures { result ≡ fetch_of code.now address }
 {
-    if place < IMAGE || is_misaligned(code, place) {
+    if address < IMAGE || is_misaligned(code, address) {
         return None;
     }
     code.instructions
-        .get(((place - IMAGE) / 2) as usize)
+        .get(((address - IMAGE) / 2) as usize)
         .copied()
 }
 
 impl Core {
+    // The number in a register.
     #[inline]
     fn register(&self, r: u8) -> u64
         ensures { result ≡ register_of (bare self.now) r }
@@ -116,11 +117,11 @@ impl Core {
         ensures stop { result ≡ (passed (bare self.old) i).stop }
         ensures machine { self.new ≡ core_of (passed (bare self.old) i).machine }
     {
-        self.place = self.place.wrapping_add(u64::from(i.length));
+        self.pc = self.pc.wrapping_add(u64::from(i.length));
         None
     }
 
-    // Goes on at another place, and puts the place behind the instruction into a register.
+    // Goes on at another address, and puts the address behind the instruction into a register.
     #[inline]
     fn jump(&mut self, code: &Code, i: Instruction, to: u64) -> Option<Stop>
         ensures stop { (n : ℕ) (bytes : List ℕ) → result ≡ (jumped code.now (machine_of n self.old bytes) i to).stop }
@@ -129,13 +130,13 @@ impl Core {
         if is_misaligned(code, to) {
             return Some(Stop::Trapped(Trap::BadJump));
         }
-        let behind = self.place.wrapping_add(u64::from(i.length));
+        let behind = self.pc.wrapping_add(u64::from(i.length));
         self.set(i.destination, behind);
-        self.place = to;
+        self.pc = to;
         None
     }
 
-    // Goes on at another place, if the branch is taken.
+    // Goes on at another address, if the branch is taken.
     #[inline]
     fn branch(&mut self, code: &Code, i: Instruction, taken: bool) -> Option<Stop>
         ensures stop { (n : ℕ) (bytes : List ℕ) → result ≡ (branched code.now (machine_of n self.old bytes) i taken).stop }
@@ -144,15 +145,15 @@ impl Core {
         if !taken {
             return self.pass(i);
         }
-        let to = self.place.wrapping_add(i.immediate);
+        let to = self.pc.wrapping_add(i.immediate);
         if is_misaligned(code, to) {
             return Some(Stop::Trapped(Trap::BadJump));
         }
-        self.place = to;
+        self.pc = to;
         None
     }
 
-    // What lies at a place, if all of it lies in one part of memory.
+    // The number at an address, if all of it lies in one part of memory.
     #[inline(always)]
     pub(crate) fn load_from<const N: usize>(
         &self,
@@ -191,11 +192,11 @@ impl Core {
     {
         match self.load_from(code, state, size, at) {
             Some(v) => self.put(i, v),
-            None => Some(Stop::Trapped(Trap::BadPlace)),
+            None => Some(Stop::Trapped(Trap::BadAddress)),
         }
     }
 
-    // The same of a number with a sign.
+    // Puts a number with a sign from memory into a register.
     #[inline(always)]
     fn load_signed<const N: usize>(
         &mut self,
@@ -210,7 +211,7 @@ impl Core {
     {
         match self.load_from(code, state, size, at) {
             Some(v) => self.put(i, extended(size, v)),
-            None => Some(Stop::Trapped(Trap::BadPlace)),
+            None => Some(Stop::Trapped(Trap::BadAddress)),
         }
     }
 
@@ -229,20 +230,20 @@ impl Core {
     {
         if at >= STATE {
             if at - STATE > N as u64 || width(size) > N as u64 - (at - STATE) {
-                return Some(Stop::Trapped(Trap::BadPlace));
+                return Some(Stop::Trapped(Trap::BadAddress));
             }
             store(state, (at - STATE) as usize, size, v);
             return self.pass(i);
         }
         let base = STATE - STACK as u64;
         if at < base || width(size) > STATE - at {
-            return Some(Stop::Trapped(Trap::BadPlace));
+            return Some(Stop::Trapped(Trap::BadAddress));
         }
         store(&mut self.stack, (at - base) as usize, size, v);
         self.pass(i)
     }
 
-    // An instruction.
+    // Does an instruction. It gives why the machine stops, if it does.
     #[inline(never)]
     fn exec<const N: usize>(
         &mut self,
@@ -257,8 +258,8 @@ impl Core {
         let y = self.register(i.second);
         match effect_of(i.operation, x, y, i.immediate) {
             Effect::Put(v) => self.put(i, v),
-            Effect::PutPlace => self.put(i, self.place.wrapping_add(i.immediate)),
-            Effect::Jump => self.jump(code, i, self.place.wrapping_add(i.immediate)),
+            Effect::PutAddress => self.put(i, self.pc.wrapping_add(i.immediate)),
+            Effect::Jump => self.jump(code, i, self.pc.wrapping_add(i.immediate)),
             Effect::JumpTo => {
                 let at = x.wrapping_add(i.immediate);
                 self.jump(code, i, at - at % 2)
@@ -275,16 +276,16 @@ impl Core {
         }
     }
 
-    // The instruction at the machine's place, or the end.
+    // Does the instruction at pc, or stops where there is none.
     #[inline]
     fn step<const N: usize>(&mut self, code: &Code, state: &mut [u8; N]) -> Option<Stop>
         ensures stop { result ≡ (step_of code.now (machine_of N self.old state.old)).stop }
         ensures machine { machine_of N self.new state.new ≡ (step_of code.now (machine_of N self.old state.old)).machine }
     {
-        match fetch(code, self.place) {
+        match fetch(code, self.pc) {
             Some(i) => self.exec(code, state, i),
             None => {
-                if self.place == RETURN {
+                if self.pc == RETURN {
                     Some(Stop::Ended)
                 } else {
                     Some(Stop::Trapped(Trap::BadJump))
@@ -324,7 +325,7 @@ impl Core {
                 }
             }
         }
-        let stop = if self.place == RETURN {
+        let stop = if self.pc == RETURN {
             Stop::Ended
         } else {
             Stop::Spent
@@ -338,6 +339,6 @@ impl Core {
         ensures { self.new ≡ core_of (answered (bare self.old) value) }
     {
         self.set(10, value);
-        self.place = self.place.wrapping_add(4);
+        self.pc = self.pc.wrapping_add(4);
     }
 }

@@ -4,7 +4,7 @@ ghost use Rattle.std.specs.Prelude.{◌≡◌, ◌+◌, ◌≤◌, length};
 ghost use Rattle.vt_riscv.specs.declared.memory.Size.TheVariants.{Half, Word, Double};
 ghost use Rattle.vt_riscv.specs.promise.Memory.{width, number_at, number_within, stored, extended};
 
-/// How many bytes a number has in memory.
+/// A size of numbers in memory.
 #[derive(Clone, Copy)]
 pub(crate) enum Size {
     Byte,
@@ -13,7 +13,7 @@ pub(crate) enum Size {
     Double,
 }
 
-/// How many bytes these are.
+/// How many bytes a number of a size has.
 #[inline(always)]
 pub(crate) fn width(size: Size) -> u64
     ensures { result ≡ width size }
@@ -26,7 +26,7 @@ pub(crate) fn width(size: Size) -> u64
     }
 }
 
-/// The number of 16 bits that lies at a place, its low byte first.
+/// The number of 16 bits that lies at an offset in these bytes, its low byte first.
 #[inline(always)]
 pub(crate) fn half(bytes: &[u8], at: usize) -> u16
     requires { at + 2 ≤ length bytes.now }
@@ -35,7 +35,7 @@ pub(crate) fn half(bytes: &[u8], at: usize) -> u16
     u16::from_le_bytes([bytes[at], bytes[at + 1]])
 }
 
-/// The number of 32 bits that lies at a place, its low byte first.
+/// The number of 32 bits that lies at an offset in these bytes, its low byte first.
 #[inline(always)]
 pub(crate) fn word(bytes: &[u8], at: usize) -> u32
     requires { at + 4 ≤ length bytes.now }
@@ -46,7 +46,7 @@ pub(crate) fn word(bytes: &[u8], at: usize) -> u32
     u32::from_le_bytes(found)
 }
 
-/// The number of 64 bits that lies at a place, its low byte first.
+/// The number of 64 bits that lies at an offset in these bytes, its low byte first.
 #[inline(always)]
 fn double(bytes: &[u8], at: usize) -> u64
     requires { at + 8 ≤ length bytes.now }
@@ -57,7 +57,7 @@ fn double(bytes: &[u8], at: usize) -> u64
     u64::from_le_bytes(found)
 }
 
-/// The number that lies at a place, its low byte first.
+/// The number of a size that lies at an offset in these bytes, its low byte first.
 #[inline(always)]
 fn number(bytes: &[u8], at: usize, size: Size) -> u64
     requires { at + width size ≤ length bytes.now }
@@ -71,7 +71,7 @@ fn number(bytes: &[u8], at: usize, size: Size) -> u64
     }
 }
 
-/// The number that lies at a place, if all of it does.
+/// The number of a size that lies at an offset in these bytes, if all of it does.
 #[inline(always)]
 pub(crate) fn number_within(bytes: &[u8], at: u64, size: Size) -> Option<u64>
     ensures { result ≡ number_within size bytes.now at }
@@ -84,7 +84,7 @@ pub(crate) fn number_within(bytes: &[u8], at: u64, size: Size) -> Option<u64>
     }
 }
 
-/// Puts a number at a place, its low byte first.
+/// Puts a number of a size at an offset in these bytes, its low byte first.
 #[inline(always)]
 pub(crate) fn store(bytes: &mut [u8], at: usize, size: Size, v: u64)
     requires { at + width size ≤ length bytes.old }

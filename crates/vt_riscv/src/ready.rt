@@ -2,7 +2,7 @@
 
 ghost use Rattle.std.specs.Prelude.{◌≡◌, ℕ, ◌<◌, ◌≤◌, ◌^◌, length, slice_index, IfOk, IfSome};
 ghost use Rattle.vt_riscv.specs.declared.ready.TheConstants.{NONE};
-ghost use Rattle.vt_riscv.specs.inside.Readiness.{place_at, head_at, ended, step_of, IsMade, IsReady, IsAimed, AreReady};
+ghost use Rattle.vt_riscv.specs.inside.Readiness.{address_at, head_at, ended, step_of, IsMade, IsReady, IsAimed, AreReady};
 
 use crate::{IMAGE, Instruction, Operation};
 use std::alloc::{AllocError, Global};
@@ -15,8 +15,8 @@ pub(crate) struct Head {
     pub destination: u8,
     pub first: u8,
     pub second: u8,
-    /// Its index in the code.
-    pub place: u32,
+    /// Its index in the code, in units of two bytes.
+    pub index: u32,
 }
 
 /// The instructions of a code that follow each other from its beginning on. Each list has something of every one.
@@ -41,7 +41,7 @@ struct Draft {
 // The most instructions of a code that are made ready.
 const MOST: usize = 0x8000_0000;
 
-// No instruction.
+// The number that stands for no instruction.
 const NONE: u32 = 0xffff_ffff;
 
 // How many indices of a code an instruction takes.
@@ -53,39 +53,39 @@ fn step(i: Instruction, compressed: bool) -> usize
     if compressed && i.length == 2 { 1 } else { 2 }
 }
 
-// What ends the instructions.
-fn ended(place: u32) -> Head
-    ensures { result ≡ ended place }
+// The head that ends the instructions, at an index in the code.
+fn ended(index: u32) -> Head
+    ensures { result ≡ ended index }
 {
     Head {
         operation: Operation::Bad,
         destination: 0,
         first: 0,
         second: 0,
-        place,
+        index,
     }
 }
 
-// The head of an instruction.
-fn made(i: Instruction, place: u32, compressed: bool) -> Head
-    ensures { IsMade compressed i place result }
+// The head of an instruction at an index in the code.
+fn made(i: Instruction, index: u32, compressed: bool) -> Head
+    ensures { IsMade compressed i index result }
 {
     if i.destination >= 32 || (i.first >= 32 || i.second >= 32) {
-        return ended(place);
+        return ended(index);
     }
     if usize::from(i.length) != 2 * step(i, compressed) {
-        return ended(place);
+        return ended(index);
     }
     Head {
         operation: i.operation,
         destination: i.destination,
         first: i.first,
         second: i.second,
-        place,
+        index,
     }
 }
 
-// The instructions one behind the other.
+// Drafts the instructions that follow each other from the beginning of a code on.
 fn drafted(alloc: Global, list: &[Instruction], compressed: bool) -> Result<Draft, AllocError>
     requires { length list.now ≤ 2 ^ 31 }
     ensures few { IfOk result (λ d. length d.heads.items < NONE) }
@@ -95,19 +95,19 @@ fn drafted(alloc: Global, list: &[Instruction], compressed: bool) -> Result<Draf
     let mut heads = Vec::new(alloc);
     let mut immediates = Vec::new(alloc);
     let mut starts = Vec::new(alloc);
-    let mut place = 0;
-    'places: while place < list.len() {
-        let i = list[place];
+    let mut index = 0;
+    'indices: while index < list.len() {
+        let i = list[index];
         let step = step(i, compressed);
         starts.push(heads.len() as u32)?;
         if step == 2 {
             starts.push(NONE)?;
         }
-        heads.push(made(i, place as u32, compressed))?;
+        heads.push(made(i, index as u32, compressed))?;
         immediates.push(i.immediate)?;
-        place += step;
+        index += step;
     }
-    heads.push(ended(place as u32))?;
+    heads.push(ended(index as u32))?;
     immediates.push(0)?;
     Ok(Draft {
         heads,
@@ -116,55 +116,55 @@ fn drafted(alloc: Global, list: &[Instruction], compressed: bool) -> Result<Draf
     })
 }
 
-/// The place of the instruction of an index.
+/// The address of an index in the code.
 #[inline(always)]
-pub(crate) fn place_at(at: u32) -> u64
-    ensures { result ≡ place_at at }
+pub(crate) fn address_at(index: u32) -> u64
+    ensures { result ≡ address_at index }
 {
-    IMAGE + 2 * u64::from(at)
+    IMAGE + 2 * u64::from(index)
 }
 
-/// The place of an instruction, or `IMAGE` if there is none of this index.
+/// The address of one of these instructions, or `IMAGE` if there is none of this number.
 #[inline(always)]
-pub(crate) fn place_of(heads: &[Head], at: usize) -> u64
-    ensures { result ≡ place_at (head_at heads.now at).place }
+pub(crate) fn address_of(heads: &[Head], at: usize) -> u64
+    ensures { result ≡ address_at (head_at heads.now at).index }
 {
     match heads.get(at) {
-        Some(head) => place_at(head.place),
+        Some(head) => address_at(head.index),
         None => IMAGE,
     }
 }
 
-/// The instruction at a place, if it is one of these.
+/// Which of these instructions is at an address, if one is.
 #[inline(always)]
-pub(crate) fn index_of(heads: &[Head], starts: &[u32], place: u64) -> Option<u32>
+pub(crate) fn index_of(heads: &[Head], starts: &[u32], address: u64) -> Option<u32>
     ensures within { IfSome result (λ n. n < length heads.now) }
-    ensures place { IfSome result (λ n. place_at (head_at heads.now n).place ≡ place) }
+    ensures address { IfSome result (λ n. address_at (head_at heads.now n).index ≡ address) }
 {
-    if place < IMAGE {
+    if address < IMAGE {
         return None;
     }
-    let at = *starts.get(((place - IMAGE) / 2) as usize)?;
+    let at = *starts.get(((address - IMAGE) / 2) as usize)?;
     let head = heads.get(at as usize)?;
-    if place_at(head.place) == place {
+    if address_at(head.index) == address {
         Some(at)
     } else {
         None
     }
 }
 
-// The instruction at a place, or `NONE`.
-fn target(heads: &[Head], starts: &[u32], place: u64) -> u32
+// Which of these instructions is at an address, or `NONE`.
+fn target(heads: &[Head], starts: &[u32], address: u64) -> u32
     requires { length heads.now < NONE }
-    ensures { result < length heads.now → place_at (head_at heads.now result).place ≡ place }
+    ensures { result < length heads.now → address_at (head_at heads.now result).index ≡ address }
 {
-    match index_of(heads, starts, place) {
+    match index_of(heads, starts, address) {
         Some(at) => at,
         None => NONE,
     }
 }
 
-// Which instruction each leads to that jumps or branches.
+// Which of these instructions each one leads to that jumps or branches, or `NONE`.
 fn targets(
     alloc: Global,
     heads: &[Head],
@@ -177,10 +177,10 @@ fn targets(
     ensures each { IfOk result (λ all. (k : ℕ) → k < length heads.now → IsAimed heads.now (slice_index immediates.now k) (slice_index all.items k) k) }
 {
     let mut all = Vec::new(alloc);
-    'places: while all.len() < heads.len() {
+    'instructions: while all.len() < heads.len() {
         let at = all.len();
-        let place = place_at(heads[at].place).wrapping_add(immediates[at]);
-        all.push(target(heads, starts, place))?;
+        let address = address_at(heads[at].index).wrapping_add(immediates[at]);
+        all.push(target(heads, starts, address))?;
     }
     Ok(all)
 }

@@ -1,8 +1,8 @@
-//! Many steps in a row, in which the machine's place is the index of an instruction.
+//! Many steps in a row, in which the index of an instruction that is ready stands for pc.
 
 ghost use Rattle.std.specs.Prelude.{◌≡◌, ℕ, List, ◌+◌, ◌-◌, ◌%◌, ◌<◌, ◌≤◌, length, slice_index};
 ghost use Rattle.vt_riscv.specs.promise.Arithmetic.{sum};
-ghost use Rattle.vt_riscv.specs.inside.Readiness.{place_at, head_at, instruction_at, IsSmall};
+ghost use Rattle.vt_riscv.specs.inside.Readiness.{address_at, head_at, instruction_at, IsSmall};
 ghost use Rattle.vt_riscv.specs.inside.Cores.{machine_of, bare, core_of};
 ghost use Rattle.vt_riscv.specs.promise.Steps.{register_of, with_register, behind, put_in, branched, jumped, loaded, loaded_signed, stored_at, exec_of, run_of};
 ghost use Rattle.vt_riscv.specs.inside.Sprints.{at_index, seen, due, rest_of, IsAim};
@@ -10,17 +10,17 @@ ghost use Rattle.vt_riscv.specs.inside.Sprints.{at_index, seen, due, rest_of, Is
 use crate::effect::{Effect, effect_of};
 use crate::machine::is_misaligned;
 use crate::memory::{Size, extended, store, width};
-use crate::ready::{Head, index_of, place_at, place_of};
+use crate::ready::{Head, address_at, address_of, index_of};
 use crate::{Code, Core, STACK, STATE};
 
 /// How the machine goes on after a ready instruction.
 #[derive(Clone, Copy)]
 pub(crate) enum Go {
-    /// With the one behind it.
+    /// It goes on with the instruction behind it.
     Next,
-    /// With another one that is ready, by its index.
+    /// It goes on with another instruction that is ready, by its index.
     At(u32),
-    /// At a place.
+    /// It goes on at an address.
     To(u64),
     /// The instruction is a call.
     Called,
@@ -64,23 +64,23 @@ impl Core {
         self.registers[0] = 0;
     }
 
-    // Puts the place behind an instruction into its register.
+    // Puts the address behind an instruction into its register.
     #[inline(always)]
     fn link(&mut self, heads: &[Head], here: Here)
         requires within { here.at < length heads.now }
         requires small { IsSmall (head_at heads.now here.at) }
         ensures { self.new ≡ core_of (with_register (bare self.old) (head_at heads.now here.at).destination (behind (at_index (bare self.old) heads.now here.at) (instruction_at heads.now here.immediate here.at))) }
     {
-        let place = heads[here.at].place;
+        let index = heads[here.at].index;
         let length = match heads.get(here.at + 1) {
-            Some(next) => next.place.saturating_sub(place),
+            Some(next) => next.index.saturating_sub(index),
             None => 0,
         };
-        let behind = place_at(place).wrapping_add(2 * u64::from(length));
+        let behind = address_at(index).wrapping_add(2 * u64::from(length));
         self.write(heads[here.at].destination, behind);
     }
 
-    // The following are those of `exec` for an instruction that is ready.
+    // This and the following ones do for an instruction that is ready what those of `exec` do.
     #[inline(always)]
     fn put_ready(&mut self, heads: &[Head], here: Here, v: u64) -> Go
         requires within { here.at < length heads.now }
@@ -144,19 +144,19 @@ impl Core {
         requires within { here.at < length heads.now }
         ensures { seen (machine_of N self.new state.new) heads.now here.immediate here.at result ≡ due (machine_of N self.old state.old) (stored_at (at_index (machine_of N self.old state.old) heads.now here.at) (instruction_at heads.now here.immediate here.at) size (sum x here.immediate) v) result }
     {
-        let place = x.wrapping_add(here.immediate);
-        if place >= STATE {
-            if place - STATE > N as u64 || width(size) > N as u64 - (place - STATE) {
+        let address = x.wrapping_add(here.immediate);
+        if address >= STATE {
+            if address - STATE > N as u64 || width(size) > N as u64 - (address - STATE) {
                 return Go::Not;
             }
-            store(state, (place - STATE) as usize, size, v);
+            store(state, (address - STATE) as usize, size, v);
             return Go::Next;
         }
         let base = STATE - STACK as u64;
-        if place < base || width(size) > STATE - place {
+        if address < base || width(size) > STATE - address {
             return Go::Not;
         }
-        store(&mut self.stack, (place - base) as usize, size, v);
+        store(&mut self.stack, (address - base) as usize, size, v);
         Go::Next
     }
 
@@ -190,7 +190,7 @@ impl Core {
         requires small { IsSmall (head_at heads.now here.at) }
         requires targets { here.at < length targets.now }
         requires aim { IsAim code.now heads.now here.immediate (slice_index targets.now here.at) here.at }
-        ensures { (n : ℕ) (bytes : List ℕ) → seen (machine_of n self.new bytes) heads.now here.immediate here.at result ≡ due (machine_of n self.old bytes) (jumped code.now (at_index (machine_of n self.old bytes) heads.now here.at) (instruction_at heads.now here.immediate here.at) (sum (place_at (head_at heads.now here.at).place) here.immediate)) result }
+        ensures { (n : ℕ) (bytes : List ℕ) → seen (machine_of n self.new bytes) heads.now here.immediate here.at result ≡ due (machine_of n self.old bytes) (jumped code.now (at_index (machine_of n self.old bytes) heads.now here.at) (instruction_at heads.now here.immediate here.at) (sum (address_at (head_at heads.now here.at).index) here.immediate)) result }
     {
         let target = targets[here.at];
         if target as usize >= heads.len() {
@@ -206,8 +206,8 @@ impl Core {
         requires small { IsSmall (head_at heads.now here.at) }
         ensures { (n : ℕ) (bytes : List ℕ) → seen (machine_of n self.new bytes) heads.now here.immediate here.at result ≡ due (machine_of n self.old bytes) (jumped code.now (at_index (machine_of n self.old bytes) heads.now here.at) (instruction_at heads.now here.immediate here.at) (sum x here.immediate - sum x here.immediate % 2)) result }
     {
-        let place = x.wrapping_add(here.immediate);
-        let to = place - place % 2;
+        let address = x.wrapping_add(here.immediate);
+        let to = address - address % 2;
         if is_misaligned(code, to) {
             return Go::Not;
         }
@@ -215,7 +215,7 @@ impl Core {
         Go::To(to)
     }
 
-    // An instruction, if it can be done. A size has an arm of its own, so that the machine's code for it knows the size.
+    // Does an instruction, if it can be done. A size has an arm of its own, so that the machine's code for it knows the size.
     #[inline(always)]
     fn exec_ready<const N: usize, const COPY: u8>(
         &mut self,
@@ -237,10 +237,10 @@ impl Core {
         let number = here.immediate;
         match effect_of(head.operation, x, y, number) {
             Effect::Put(v) => self.put_ready(heads, here, v),
-            Effect::PutPlace => self.put_ready(
+            Effect::PutAddress => self.put_ready(
                 heads,
                 here,
-                place_at(head.place).wrapping_add(number),
+                address_at(head.index).wrapping_add(number),
             ),
             Effect::Jump => self.link_ready(code, heads, targets, here),
             Effect::JumpTo => self.jump_ready(code, heads, here, x),
@@ -314,7 +314,7 @@ impl Core {
         let immediates = code.ready.immediates.as_slice();
         let targets = code.ready.targets.as_slice();
         let starts = code.ready.starts.as_slice();
-        let Some(first) = index_of(heads, starts, self.place) else {
+        let Some(first) = index_of(heads, starts, self.pc) else {
             return Sprint {
                 left: fuel,
                 called: false,
@@ -342,9 +342,9 @@ impl Core {
                     continue 'steps;
                 }
                 Go::At(to) => to as usize,
-                Go::To(place) => {
-                    let Some(to) = index_of(heads, starts, place) else {
-                        self.place = place;
+                Go::To(address) => {
+                    let Some(to) = index_of(heads, starts, address) else {
+                        self.pc = address;
                         return Sprint {
                             left: left - 1,
                             called: false,
@@ -353,14 +353,14 @@ impl Core {
                     to as usize
                 }
                 Go::Called => {
-                    self.place = place_of(heads, at);
+                    self.pc = address_of(heads, at);
                     return Sprint {
                         left: left - 1,
                         called: true,
                     };
                 }
                 Go::Not => {
-                    self.place = place_of(heads, at);
+                    self.pc = address_of(heads, at);
                     return Sprint {
                         left,
                         called: false,
@@ -369,7 +369,7 @@ impl Core {
             };
             let most = heads.len().saturating_sub(to) as u64;
             if most == 0 || left - 1 < most {
-                self.place = place_of(heads, to);
+                self.pc = address_of(heads, to);
                 return Sprint {
                     left: left - 1,
                     called: false,

@@ -14,7 +14,7 @@ abbrev pub is_loaded : List ℕ → ℕ → Bool
 is_loaded file at = nat_eq (p_type file at) 1 && not (nat_eq (p_memsz file at) 0)
 
 abbrev pub segment_at : List ℕ → ℕ → Segment
-segment_at file at = record { flags = p_flags file at; offset = p_offset file at; place = p_vaddr file at; file_size = p_filesz file at; memory_size = p_memsz file at }
+segment_at file at = record { flags = p_flags file at; offset = p_offset file at; address = p_vaddr file at; file_size = p_filesz file at; memory_size = p_memsz file at }
 
 -- the loadable segments of the first n program headers, in the table's order
 abbrev pub loaded : List ℕ → ℕ → List Segment
@@ -51,7 +51,7 @@ excess_of State = StateTooLarge
 
 -- where a segment ends in memory
 abbrev pub end_of : Segment → ℕ
-end_of s = s.place + s.memory_size
+end_of s = s.address + s.memory_size
 
 -- the next rule's refusal where a rule is kept, else this one's
 abbrev pub unless : Bool → Refusal → Option Refusal → Option Refusal
@@ -61,16 +61,16 @@ unless kept refusal next = if kept then next else Some refusal
 abbrev pub region_fault : Bool → Segment → Option Refusal
 region_fault code s =
     let region = region_of s in
-    unless (nat_le (base_of region) s.place && nat_lt s.place (base_of region + limit_of region) && (code || not (is_executable s))) (OutsideRegion s.place)
+    unless (nat_le (base_of region) s.address && nat_lt s.address (base_of region + limit_of region) && (code || not (is_executable s))) (OutsideRegion s.address)
     (unless (nat_le (end_of s) (base_of region + limit_of region)) (excess_of region)
     None)
 
 -- what is wrong with a segment of a file of so many bytes, behind segments that end at `before`, and are all code or not
 abbrev pub segment_fault : ℕ → ℕ → Bool → Segment → Option Refusal
 segment_fault size before code s =
-    unless (not (is_writable s && is_executable s)) (WritableCode s.place)
-    (unless (nat_le s.file_size s.memory_size && nat_le (s.offset + s.file_size) size) (OutsideFile s.place)
-    (unless (nat_le before s.place) (Overlap s.place)
+    unless (not (is_writable s && is_executable s)) (WritableCode s.address)
+    (unless (nat_le s.file_size s.memory_size && nat_le (s.offset + s.file_size) size) (OutsideFile s.address)
+    (unless (nat_le before s.address) (Overlap s.address)
     (region_fault code s)))
 
 -- what is wrong with the first of these segments with which something is
@@ -97,13 +97,13 @@ image_end ss = reach Constants (code_end ss) ss
 abbrev pub state_end : List Segment → ℕ
 state_end ss = reach State STATE ss
 
--- the byte at a place of memory: the file's byte of the first segment that has one there, else zero
+-- the byte at an address: the file's byte of the first segment that has one there, else zero
 abbrev pub has_byte : Segment → ℕ → Bool
-has_byte s place = nat_le s.place place && nat_lt place (s.place + s.file_size)
+has_byte s address = nat_le s.address address && nat_lt address (s.address + s.file_size)
 
 abbrev pub file_byte : List ℕ → Segment → ℕ → ℕ
-file_byte file s place = slice_index file (s.offset + (place - s.place))
+file_byte file s address = slice_index file (s.offset + (address - s.address))
 
 abbrev pub memory_byte : List ℕ → List Segment → ℕ → ℕ
-memory_byte file [] place = 0
-memory_byte file (s ∷ ss) place = if has_byte s place then file_byte file s place else memory_byte file ss place
+memory_byte file [] address = 0
+memory_byte file (s ∷ ss) address = if has_byte s address then file_byte file s address else memory_byte file ss address

@@ -80,9 +80,9 @@ first_symbol table names kind name = first_below (is_symbol table names kind nam
 
 -- where an object lies, and its size
 abbrev pub object_at : List ℕ → ℕ → Object
-object_at table at = record { place = st_value table at; size = st_size table at }
+object_at table at = record { address = st_value table at; size = st_size table at }
 
--- the place of the function of a name, and the object of a name
+-- the address of the function of a name, and the object of a name
 abbrev pub function_named : Symbols → List ℕ → Option ℕ
 function_named symbols name = option_map (λ i. st_value symbols.table.items (24 * i)) (first_symbol symbols.table.items symbols.names.items Function name)
 

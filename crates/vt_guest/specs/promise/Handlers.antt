@@ -41,7 +41,7 @@ module _ {N : ℕ} where
     send_requests = sends;
   }
   start_gives lp first (Err why) x sends = record {
-    state = record { bytes = first; failed = trap_value why x.machine.place };
+    state = record { bytes = first; failed = trap_value why x.machine.pc };
     drawn = x.drawn;
     send_requests = alarm lp ∷ [];
   }
@@ -75,7 +75,7 @@ module _ {N : ℕ} where
     send_requests = sends;
     record_requests = notes;
   }
-  event_gives s (Err why) x sends notes = trap_gives s x.drawn (trap_value why x.machine.place)
+  event_gives s (Err why) x sends notes = trap_gives s x.drawn (trap_value why x.machine.pc)
 
   abbrev pub event_run : Guest N → ℕ → ℕ → Time → Words → Process N → (ℕ → ℕ) → Handled N
   event_run g lps lp now w s words =

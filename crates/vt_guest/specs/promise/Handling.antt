@@ -4,7 +4,7 @@ use Rattle.vt_model.specs.promise.Sends.{SendRequest, RecordRequest}
 use Rattle.vt_riscv.specs.declared.code.Code.{Code}
 use Rattle.vt_riscv.specs.declared.machine.Stop.{Stop}
 use Rattle.vt_riscv.specs.declared.machine.Stop.TheVariants as stops
-use Rattle.vt_riscv.specs.declared.places.TheConstants.{RETURN, STACK, STATE}
+use Rattle.vt_riscv.specs.declared.layout.TheConstants.{RETURN, STACK, STATE}
 use Rattle.vt_riscv.specs.promise.Steps.{run_of}
 use Rattle.vt_guest.specs.declared.trap.Reason.{Reason}
 use Rattle.vt_guest.specs.declared.trap.Reason.TheVariants.{TooMany, Spent}
@@ -31,12 +31,12 @@ abbrev pub Rest : ℕ → Type 0
 Rest N = Handling N → List (SendRequest Words) → List RecordRequest → Handled N
 
 module _ {N : ℕ} where
-  -- a handler at its beginning: ra (x1) has the place at which it ends, sp (x2) the end of its stack, and a0 to a4 (x10 to x14) its
+  -- a handler at its beginning: ra (x1) has the address at which it ends, sp (x2) the end of its stack, and a0 to a4 (x10 to x14) its
   -- arguments. All other registers are 0
   abbrev pub begun : ℕ → ℕ → ℕ → ℕ → ℕ → Words → List ℕ → Handling N
   begun entry fuel lp tick priority words bytes = record {
     machine = record {
-      place = entry;
+      pc = entry;
       registers = 0 ∷ RETURN ∷ STATE ∷ 0 ∷ 0 ∷ 0 ∷ 0 ∷ 0 ∷ 0 ∷ 0 ∷ lp ∷ tick ∷ priority ∷ words.a ∷ words.b ∷ 0 ∷ 0 ∷ 0 ∷ 0 ∷ 0 ∷ 0 ∷ 0 ∷ 0 ∷ 0 ∷ 0 ∷ 0 ∷ 0 ∷ 0 ∷ 0 ∷ 0 ∷ 0 ∷ 0 ∷ [];
       state = bytes;
       stack = blank_stack;

@@ -12,7 +12,7 @@ use Rattle.vt_elf.specs.declared.segment.TheConstants.{IMAGE as ELF_IMAGE, STATE
 use Rattle.vt_elf.specs.declared.executable.Executable.{Executable}
 use Rattle.vt_elf.specs.declared.symbols.Object.{Object}
 use Rattle.vt_elf.specs.declared.symbols.Symbols.{Symbols}
-use Rattle.vt_riscv.specs.declared.places.TheConstants.{IMAGE, STATE}
+use Rattle.vt_riscv.specs.declared.layout.TheConstants.{IMAGE, STATE}
 use Rattle.vt_riscv.specs.promise.Codes.{instructions_of}
 use Rattle.vt_guest.specs.declared.loading.Set.{Set}
 use Rattle.vt_guest.specs.declared.loading.Loaded.{Loaded}
@@ -24,7 +24,7 @@ use Rattle.vt_guest.specs.declared.loading.Refusal.TheVariants as refusals
 
 -- an object lies within so many bytes from a base on
 abbrev pub is_inside : ℕ → ℕ → Object → Bool
-is_inside base size o = nat_le base o.place && nat_le (o.place + o.size) (base + size)
+is_inside base size o = nat_le base o.address && nat_le (o.address + o.size) (base + size)
 
 -- an object is a number of 4 or 8 bytes
 abbrev pub is_number : Object → Bool
@@ -34,7 +34,7 @@ is_number o = nat_eq o.size 4 || nat_eq o.size 8
 abbrev pub with_number : ℕ → Object → ℕ → List ℕ → List ℕ
 with_number base o v bytes =
     if is_inside base (length bytes) o
-    then (if nat_eq o.size 4 then paste bytes (o.place - base) (to_le_bytes w32 (v % 2 ^ 32)) 4 else paste bytes (o.place - base) (to_le_bytes w64 v) 8)
+    then (if nat_eq o.size 4 then paste bytes (o.address - base) (to_le_bytes w32 (v % 2 ^ 32)) 4 else paste bytes (o.address - base) (to_le_bytes w64 v) 8)
     else bytes
 
 abbrev pub with_found : ℕ → ℕ → List ℕ → Option Object → List ℕ
@@ -72,7 +72,7 @@ abbrev pub set_refused : Refusal → Option (List ℕ × ObjectFault)
 set_refused (refusals.Set name why) = Some (string_bytes name, why)
 set_refused other = None
 
--- the number that lies at a place, in 4 bytes and in 8
+-- the number that lies at an offset in these bytes, in 4 bytes and in 8
 abbrev pub word_at : List ℕ → ℕ → ℕ
 word_at bytes at = from_le_bytes w32 (slice_index bytes at ∷ slice_index bytes (at + 1) ∷ slice_index bytes (at + 2) ∷ slice_index bytes (at + 3) ∷ [])
 
@@ -82,7 +82,7 @@ double_at bytes at =
 
 -- the number that an object has, in image or state
 abbrev pub number_in : ℕ → Object → List ℕ → ℕ
-number_in base o bytes = if nat_eq o.size 4 then word_at bytes (o.place - base) else double_at bytes (o.place - base)
+number_in base o bytes = if nat_eq o.size 4 then word_at bytes (o.address - base) else double_at bytes (o.address - base)
 
 abbrev pub number_of_object : List ℕ → List ℕ → Object → ℕ
 number_of_object image state o = if is_inside IMAGE (length image) o then number_in IMAGE o image else number_in STATE o state

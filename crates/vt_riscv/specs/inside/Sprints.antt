@@ -1,4 +1,4 @@
--- Many steps in a row: the machine's place is that of an instruction made ready then.
+-- Many steps in a row: pc is the address of an instruction made ready then.
 use Rattle.std.specs.Prelude.{◌≡◌, ℕ, ◌<◌, Bool, true, false, List, length}
 use Rattle.vt_riscv.specs.declared.ready.Head.{Head}
 use Rattle.vt_riscv.specs.declared.code.Code.{Code}
@@ -6,25 +6,25 @@ use Rattle.vt_riscv.specs.promise.Machines.{Machine}
 use Rattle.vt_riscv.specs.declared.machine.Stop.TheVariants.{Called}
 use Rattle.vt_riscv.specs.declared.sprint.Go.{Go}
 use Rattle.vt_riscv.specs.declared.sprint.Go.TheVariants as go
-use Rattle.vt_riscv.specs.inside.Readiness.{place_at, head_at, instruction_at}
+use Rattle.vt_riscv.specs.inside.Readiness.{address_at, head_at, instruction_at}
 use Rattle.vt_riscv.specs.promise.Arithmetic.{sum}
 use Rattle.vt_riscv.specs.promise.Steps.{Turn, Ran, goes_on, stops, behind, is_misaligned, run_of}
 
 -- an instruction may begin where another jumps or branches to, if that is one of these
 abbrev pub IsAim : Code → List Head → ℕ → ℕ → ℕ → Type 0
 IsAim code heads immediate target k =
-    target < length heads → (place_at (head_at heads target).place ≡ sum (place_at (head_at heads k).place) immediate) × (is_misaligned code (place_at (head_at heads target).place) ≡ false)
+    target < length heads → (address_at (head_at heads target).index ≡ sum (address_at (head_at heads k).index) immediate) × (is_misaligned code (address_at (head_at heads target).index) ≡ false)
 
 module _ {N : ℕ} where
-  -- the machine at an instruction
+  -- the machine with pc at an instruction that is ready
   abbrev pub at_index : Machine N → List Head → ℕ → Machine N
-  at_index m heads k = record m { place = place_at (head_at heads k).place }
+  at_index m heads k = record m { pc = address_at (head_at heads k).index }
 
   -- where the machine is after an instruction, by how it goes on. `Not` means that nothing was done
   abbrev pub seen : Machine N → List Head → ℕ → ℕ → Go → Turn N
-  seen m heads immediate k go.Next = goes_on (record m { place = behind (at_index m heads k) (instruction_at heads immediate k) })
+  seen m heads immediate k go.Next = goes_on (record m { pc = behind (at_index m heads k) (instruction_at heads immediate k) })
   seen m heads immediate k (go.At to) = goes_on (at_index m heads to)
-  seen m heads immediate k (go.To place) = goes_on (record m { place = place })
+  seen m heads immediate k (go.To address) = goes_on (record m { pc = address })
   seen m heads immediate k go.Called = stops Called (at_index m heads k)
   seen m heads immediate k go.Not = goes_on m
 
@@ -32,7 +32,7 @@ module _ {N : ℕ} where
   abbrev pub due : Machine N → Turn N → Go → Turn N
   due m turn go.Next = turn
   due m turn (go.At to) = turn
-  due m turn (go.To place) = turn
+  due m turn (go.To address) = turn
   due m turn go.Called = turn
   due m turn go.Not = goes_on m
 

@@ -81,7 +81,7 @@ quotient_signed w x y = if nat_eq y 0 then bit_not w 0 else cast_unsigned w (int
 abbrev pub rest_signed : Width → ℕ → ℕ → ℕ
 rest_signed w x y = if nat_eq y 0 then x else cast_unsigned w (int_rem (cast_signed w x) (cast_signed w y))
 
--- the same of words, as 64 bits
+-- quotients and rests of words, as 64 bits
 abbrev pub quotient_of_words : ℕ → ℕ → ℕ
 quotient_of_words x y = sign_extended (quotient w32 (low x) (low y))
 

@@ -16,14 +16,14 @@ long_at bytes at = if nat_le (at + 4) (length bytes) then decode_of (number_at W
 abbrev pub short_of : Bool → ℕ → Instruction
 short_of compressed half = if compressed then decode_compressed_of half else plain Bad
 
--- the instruction at a place, by its first 16 bits
+-- the instruction at an offset in a code, by its first 16 bits
 abbrev pub instruction_with : Bool → List ℕ → ℕ → ℕ → Instruction
 instruction_with compressed bytes at half = if nat_eq (half % 4) 3 then long_at bytes at else short_of compressed half
 
--- the instruction at a place of a code
+-- the instruction at an offset in a code
 abbrev pub instruction_at : Bool → List ℕ → ℕ → Instruction
 instruction_at compressed bytes at = instruction_with compressed bytes at (number_at Half bytes at)
 
--- the instruction at each even place of a code
+-- the instruction at each even offset in a code
 abbrev pub instructions_of : Bool → List ℕ → List Instruction
 instructions_of compressed bytes = map (λ (k : ℕ). instruction_at compressed bytes (2 * k)) (range_with_len 0 (length bytes / 2))

@@ -69,7 +69,7 @@ addi16sp_immediate h =
 unfoldable pub addi4spn_immediate : ℕ → ℕ
 addi4spn_immediate h = bits_at h 11 2 * 2 ^ 4 + bits_at h 7 4 * 2 ^ 6 + bits_at h 6 1 * 2 ^ 2 + bits_at h 5 1 * 2 ^ 3
 
--- an instruction of this length, with its result's register, the two that it reads, and its immediate
+-- a compressed instruction, with its result's register, the two that it reads, and its immediate
 abbrev pub short : Operation → ℕ → ℕ → ℕ → ℕ → Instruction
 short o rd rs1 rs2 immediate = record { operation = o; destination = rd; first = rs1; second = rs2; length = 2; immediate = immediate }
 
@@ -90,13 +90,13 @@ quadrant_0 h n =
     else (if nat_eq n 7 then short Sd 0 (high_in h) (low_in h) (double_offset h)
     else no_instruction))))
 
--- table 16.6, quadrant 1. Of C.ADDI16SP and C.LUI
+-- table 16.6, quadrant 1. The instruction C.ADDI16SP or C.LUI
 unfoldable pub upper_of : ℕ → ℕ → Instruction
 upper_of h rd =
     if nat_eq rd 2 then unless_reserved (nat_eq (amount_in h) 0) (short Addi 2 2 0 (addi16sp_immediate h))
     else unless_reserved (nat_eq (amount_in h) 0) (short Lui rd 0 0 (upper_in h))
 
--- of two registers
+-- the operation of an instruction of two registers
 unfoldable pub registers_of : ℕ → ℕ → Operation
 registers_of words n =
     if nat_eq words 0 then (if nat_eq n 0 then Sub else (if nat_eq n 1 then Xor else (if nat_eq n 2 then Or else And)))
@@ -120,7 +120,7 @@ quadrant_1 h n =
     else (if nat_eq n 6 then short Beq 0 (high_in h) 0 (branch_offset h)
     else short Bne 0 (high_in h) 0 (branch_offset h)))))))
 
--- table 16.7, quadrant 2. C.JR and C.MV, and then C.EBREAK, C.JALR and C.ADD
+-- table 16.7, quadrant 2. The instruction C.JR or C.MV, or where `adds` isn't 0, C.EBREAK, C.JALR or C.ADD
 unfoldable pub move_of : ℕ → ℕ → ℕ → Instruction
 move_of rd rs2 adds =
     if nat_eq adds 0 then (if nat_eq rs2 0 then unless_reserved (nat_eq rd 0) (short Jalr 0 rd 0 0) else short Add rd 0 rs2 0)

@@ -114,7 +114,7 @@ op_mul_of n =
 unfoldable pub op_of : ℕ → ℕ → Operation
 op_of funct7 n = if nat_eq funct7 0 then op_base_of n else (if nat_eq funct7 32 then op_other_of n else (if nat_eq funct7 1 then op_mul_of n else Bad))
 
--- OP-32
+-- OP-32, by the same three numbers of funct7
 abbrev pub op_32_base_of : ℕ → Operation
 op_32_base_of n = if nat_eq n 0 then Addw else (if nat_eq n 1 then Sllw else (if nat_eq n 5 then Srlw else Bad))
 

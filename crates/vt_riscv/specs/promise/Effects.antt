@@ -6,7 +6,7 @@ use Rattle.vt_riscv.specs.declared.instruction.Operation.{Operation}
 use Rattle.vt_riscv.specs.declared.instruction.Operation.TheVariants.{Bad, Lui, Auipc, Jal, Jalr, Beq, Bne, Blt, Bge, Bltu, Bgeu, Lb, Lh, Lw, Ld, Lbu, Lhu, Lwu, Sb, Sh, Sw, Sd, Addi, Slti, Sltiu, Xori, Ori, Andi, Slli, Srli, Srai, Add, Sub, Sll, Slt, Sltu, Xor, Srl, Sra, Or, And, Addiw, Slliw, Srliw, Sraiw, Addw, Subw, Sllw, Srlw, Sraw, Fence, Ecall, Ebreak, Mul, Mulh, Mulhsu, Mulhu, Div, Divu, Rem, Remu, Mulw, Divw, Divuw, Remw, Remuw}
 use Rattle.vt_riscv.specs.declared.machine.Trap.TheVariants.{BadInstruction, Breakpoint}
 use Rattle.vt_riscv.specs.declared.effect.Effect.{Effect}
-use Rattle.vt_riscv.specs.declared.effect.Effect.TheVariants.{Put, PutPlace, Jump, JumpTo, Branch, Load, LoadSigned, Store, Pass, Call, Fail}
+use Rattle.vt_riscv.specs.declared.effect.Effect.TheVariants.{Put, PutAddress, Jump, JumpTo, Branch, Load, LoadSigned, Store, Pass, Call, Fail}
 use Rattle.vt_riscv.specs.promise.Arithmetic.{sum, difference, sum_of_words, difference_of_words, left, right, right_signed, left_of_word, right_of_word, right_signed_of_word, less_signed, product, product_of_words, upper_signed, upper_mixed, upper_unsigned, quotient, rest, quotient_signed, rest_signed, quotient_of_words, rest_of_words, signed_quotient_of_words, signed_rest_of_words}
 
 -- what an operation does, where the first register holds `x`, the second `y`, and the immediate is `n`
@@ -23,7 +23,7 @@ effect_of Slli x y n = Put (left x n)
 effect_of Srli x y n = Put (right x n)
 effect_of Srai x y n = Put (right_signed x n)
 effect_of Lui x y n = Put n
-effect_of Auipc x y n = PutPlace
+effect_of Auipc x y n = PutAddress
 effect_of Addiw x y n = Put (sum_of_words x n)
 effect_of Slliw x y n = Put (left_of_word x n)
 effect_of Srliw x y n = Put (right_of_word x n)

@@ -12,7 +12,7 @@ width Half = 2
 width Word = 4
 width Double = 8
 
--- the number that lies at a place
+-- the number that lies at an offset in these bytes
 abbrev pub number_at : Size → List ℕ → ℕ → ℕ
 number_at Byte m at = slice_index m at
 number_at Half m at = from_le_bytes w16 (slice_index m at ∷ slice_index m (at + 1) ∷ [])
@@ -20,18 +20,18 @@ number_at Word m at = from_le_bytes w32 (slice_index m at ∷ slice_index m (at 
 number_at Double m at =
     from_le_bytes w64 (slice_index m at ∷ slice_index m (at + 1) ∷ slice_index m (at + 2) ∷ slice_index m (at + 3) ∷ slice_index m (at + 4) ∷ slice_index m (at + 5) ∷ slice_index m (at + 6) ∷ slice_index m (at + 7) ∷ [])
 
--- the number that lies at a place, if all of it does
+-- the number that lies at an offset in these bytes, if all of it does
 abbrev pub number_within : Size → List ℕ → ℕ → Option ℕ
 number_within size bytes at = if nat_le (at + width size) (length bytes) then Some (number_at size bytes at) else None
 
--- memory with a number at a place: `paste` puts so many bytes over those that lie there
+-- these bytes with a number at an offset: `paste` puts so many bytes over those that lie there
 abbrev pub stored : Size → List ℕ → ℕ → ℕ → List ℕ
 stored Byte m at v = slice_set m at (v % 2 ^ 8)
 stored Half m at v = paste m at (to_le_bytes w16 (v % 2 ^ 16)) 2
 stored Word m at v = paste m at (to_le_bytes w32 (v % 2 ^ 32)) 4
 stored Double m at v = paste m at (to_le_bytes w64 v) 8
 
--- memory with a number at a place, if there is room for all of it
+-- these bytes with a number at an offset, if there is room for all of it
 abbrev pub stored_within : Size → List ℕ → ℕ → ℕ → Option (List ℕ)
 stored_within size bytes at v = if nat_le (at + width size) (length bytes) then Some (stored size bytes at v) else None
 

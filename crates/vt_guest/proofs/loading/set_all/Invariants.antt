@@ -1,5 +1,5 @@
 use Rattle.std.proofs.Common.{◌≡◌, drop, length}
-use Rattle.vt_riscv.specs.declared.places.TheConstants.{IMAGE, STATE}
+use Rattle.vt_riscv.specs.declared.layout.TheConstants.{IMAGE, STATE}
 use Rattle.vt_guest.specs.promise.Loading.{with_sets, sets_fault}
 use Rattle.vt_guest.proofs.loading.set_all.Given as goal
 

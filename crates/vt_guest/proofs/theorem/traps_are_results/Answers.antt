@@ -11,4 +11,4 @@ pub returns-clause-start : goal.returns-clause-start
 returns-clause-start g c = λ guest lps lp words why e. start-fails guest lps lp words why e
 
 pub returns-clause-marked : goal.returns-clause-marked
-returns-clause-marked g c = λ why place. marked why place
+returns-clause-marked g c = λ why address. marked why address

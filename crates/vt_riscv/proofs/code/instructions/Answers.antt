@@ -5,14 +5,14 @@ use Rattle.vt_riscv.specs.declared.instruction.Instruction.{Instruction}
 use Rattle.vt_riscv.specs.promise.Codes.{instruction_at}
 use Rattle.vt_riscv.proofs.code.instructions.Goals as goal
 
-pub places-preserved : goal.places-preserved
-places-preserved c =
+pub indices-preserved : goal.indices-preserved
+indices-preserved c =
     let read = λ (k : ℕ). instruction_at c.args.compressed c.args.bytes.now (2 * k) in
-    let pushed : c.push.new.self.items ≡ c.places.list.items ++ c.instruction_at.result ∷ [] = search rules in
+    let pushed : c.push.new.self.items ≡ c.indices.list.items ++ c.instruction_at.result ∷ [] = search rules in
     record {
       count = refl;
       within = omega arith;
-      list = pushed ∙ ap (λ (xs : List Instruction). xs ++ c.instruction_at.result ∷ []) c.places.invariant.list
-          ∙ ap (λ (i : Instruction). map read (range_with_len 0 c.places.place) ++ i ∷ []) c.instruction_at.ensures
-          ∙ sym (map-range_with_len_more read 0 c.places.place c.places.place (omega arith));
+      list = pushed ∙ ap (λ (xs : List Instruction). xs ++ c.instruction_at.result ∷ []) c.indices.invariant.list
+          ∙ ap (λ (i : Instruction). map read (range_with_len 0 c.indices.index) ++ i ∷ []) c.instruction_at.ensures
+          ∙ sym (map-range_with_len_more read 0 c.indices.index c.indices.index (omega arith));
     }

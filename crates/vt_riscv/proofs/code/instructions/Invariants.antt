@@ -3,12 +3,12 @@ use Rattle.std.specs.List.{range_with_len}
 use Rattle.vt_riscv.specs.promise.Codes.{instruction_at}
 use Rattle.vt_riscv.proofs.code.instructions.Given as goal
 
-abbrev pub invariant-places : goal.invariant-places
-invariant-places l = record {
+abbrev pub invariant-indices : goal.invariant-indices
+invariant-indices l = record {
   count : l.count ≡ length l.bytes / 2;
-  within : l.place ≤ l.count;
-  list : l.list.items ≡ map (λ (k : ℕ). instruction_at l.compressed l.bytes (2 * k)) (range_with_len 0 l.place);
+  within : l.index ≤ l.count;
+  list : l.list.items ≡ map (λ (k : ℕ). instruction_at l.compressed l.bytes (2 * k)) (range_with_len 0 l.index);
 }
 
-abbrev pub decreases-places : goal.decreases-places
-decreases-places l = l.count - l.place
+abbrev pub decreases-indices : goal.decreases-indices
+decreases-indices l = l.count - l.index

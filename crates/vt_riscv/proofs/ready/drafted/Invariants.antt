@@ -1,15 +1,15 @@
 use Rattle.std.proofs.Common.{◌≡◌, ℕ, ◌+◌, ◌-◌, ◌%◌, ◌<◌, ◌≤◌, [], ◌∷◌, ◌++◌, length, if◌then◌else◌, slice_index}
-use Rattle.vt_riscv.specs.inside.Readiness.{place_at, ended, IsReady}
+use Rattle.vt_riscv.specs.inside.Readiness.{address_at, ended, IsReady}
 use Rattle.vt_riscv.proofs.ready.drafted.Given as goal
 
-abbrev pub invariant-places : goal.invariant-places
-invariant-places l = record {
+abbrev pub invariant-indices : goal.invariant-indices
+invariant-indices l = record {
   many : length l.immediates.items ≡ length l.heads.items;
-  few : length l.heads.items ≤ l.place;
-  within : l.place ≤ length l.list + 1;
-  even : place_at l.place % (if l.compressed then 2 else 4) ≡ 0;
-  each : (k : ℕ) → k < length l.heads.items → IsReady l.compressed l.list (l.heads.items ++ ended l.place ∷ []) (slice_index l.immediates.items k) k;
+  few : length l.heads.items ≤ l.index;
+  within : l.index ≤ length l.list + 1;
+  even : address_at l.index % (if l.compressed then 2 else 4) ≡ 0;
+  each : (k : ℕ) → k < length l.heads.items → IsReady l.compressed l.list (l.heads.items ++ ended l.index ∷ []) (slice_index l.immediates.items k) k;
 }
 
-abbrev pub decreases-places : goal.decreases-places
-decreases-places l = length l.list + 1 - l.place
+abbrev pub decreases-indices : goal.decreases-indices
+decreases-indices l = length l.list + 1 - l.index

@@ -2,11 +2,11 @@ use Rattle.std.proofs.Common.{ℕ, ◌-◌, ◌<◌, ◌≤◌, length, slice_in
 use Rattle.vt_riscv.specs.inside.Readiness.{IsAimed}
 use Rattle.vt_riscv.proofs.ready.targets.Given as goal
 
-abbrev pub invariant-places : goal.invariant-places
-invariant-places l = record {
+abbrev pub invariant-instructions : goal.invariant-instructions
+invariant-instructions l = record {
   few : length l.all.items ≤ length l.heads;
   each : (k : ℕ) → k < length l.all.items → IsAimed l.heads (slice_index l.immediates k) (slice_index l.all.items k) k;
 }
 
-abbrev pub decreases-places : goal.decreases-places
-decreases-places l = length l.heads - length l.all.items
+abbrev pub decreases-instructions : goal.decreases-instructions
+decreases-instructions l = length l.heads - length l.all.items

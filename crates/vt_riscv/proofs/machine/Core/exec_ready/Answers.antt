@@ -31,10 +31,10 @@ returns-in-Put g c =
     does g (goal.at.returns-in-Put g c).After-effect_of _ _ _ _ c.in-Put.is (c.put_ready.ensures _ _)
     refl
 
-pub returns-in-PutPlace : goal.returns-in-PutPlace
-returns-in-PutPlace g c =
-    does g (goal.at.returns-in-PutPlace g c).After-effect_of _ _ _ _ c.in-PutPlace.is (c.put_ready-in-PutPlace.ensures _ _)
-    (λ j. put_in (at_index (machine_of g.row.N c.args.self.now c.args.state.now) c.args.heads.now c.args.here.at) (instruction_at c.args.heads.now c.args.here.immediate c.args.here.at) (sum (c.place_at.ensures j) c.args.here.immediate))
+pub returns-in-PutAddress : goal.returns-in-PutAddress
+returns-in-PutAddress g c =
+    does g (goal.at.returns-in-PutAddress g c).After-effect_of _ _ _ _ c.in-PutAddress.is (c.put_ready-in-PutAddress.ensures _ _)
+    (λ j. put_in (at_index (machine_of g.row.N c.args.self.now c.args.state.now) c.args.heads.now c.args.here.at) (instruction_at c.args.heads.now c.args.here.immediate c.args.here.at) (sum (c.address_at.ensures j) c.args.here.immediate))
 
 pub returns-in-Jump : goal.returns-in-Jump
 returns-in-Jump g c =

@@ -11,8 +11,8 @@ pub returns : goal.returns
 returns c = λ n bytes.
     let here = at_index (machine_of n c.args.self.now bytes) c.args.heads.now c.args.here.at in
     let i = instruction_at c.args.heads.now c.args.here.immediate c.args.here.at in
-    let place = sum c.args.x c.args.here.immediate in
-    let to = place - place % 2 in
+    let address = sum c.args.x c.args.here.immediate in
+    let to = address - address % 2 in
     let straight : is_misaligned c.args.code.now to ≡ false = search rules in
-    (λ j. goes_on (record (machine_of n (c.link.ensures j) bytes) { place = to }))
-    ∙ (λ j. if sym straight j then trapped BadJump here else goes_on (record (with_register here i.destination (behind here i)) { place = to }))
+    (λ j. goes_on (record (machine_of n (c.link.ensures j) bytes) { pc = to }))
+    ∙ (λ j. if sym straight j then trapped BadJump here else goes_on (record (with_register here i.destination (behind here i)) { pc = to }))

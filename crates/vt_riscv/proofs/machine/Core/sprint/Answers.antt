@@ -1,6 +1,6 @@
 use Rattle.std.proofs.Common.{rules, ◌≡◌, ℕ, ◌+◌, ◌-◌, ◌<◌, ◌≤◌, ◌∙◌, length, slice_index, sym, ap, arith}
 use Rattle.vt_riscv.specs.declared.machine.Stop.TheVariants.{Called}
-use Rattle.vt_riscv.specs.inside.Readiness.{place_at, head_at}
+use Rattle.vt_riscv.specs.inside.Readiness.{address_at, head_at}
 use Rattle.vt_riscv.specs.inside.Cores.{machine_of}
 use Rattle.vt_riscv.specs.promise.Steps.{run_of}
 use Rattle.vt_riscv.specs.inside.Sprints.{at_index}
@@ -51,7 +51,7 @@ returns-in_default-index_of-clause-run g c =
     let left = c.steps.spare + (length heads - k) in
     let some : 0 < left = omega (arith, c.steps.invariant.within) in
     c.steps.invariant.run
-    ∙ run-to code heads (slice_index immediates k) k m n c.exec_ready.result (are.each k c.steps.invariant.within) c.exec_ready.ensures left c.in-To.place some c.in-To.is
+    ∙ run-to code heads (slice_index immediates k) k m n c.exec_ready.result (are.each k c.steps.invariant.within) c.exec_ready.ensures left c.in-To.address some c.in-To.is
 
 pub returns-in-Called-clause-run : goal.returns-in-Called-clause-run
 returns-in-Called-clause-run g c =
@@ -66,7 +66,7 @@ returns-in-Called-clause-run g c =
     let some : 0 < left = omega (arith, c.steps.invariant.within) in
     c.steps.invariant.run
     ∙ run-call code heads (slice_index immediates k) k m n c.exec_ready.result (are.each k c.steps.invariant.within) c.exec_ready.ensures left some c.in-Called.is
-    ∙ (λ j. record { outcome = record { stop = Called; left = left - 1 }; machine = record n { place = sym c.place_of-self.ensures j } })
+    ∙ (λ j. record { outcome = record { stop = Called; left = left - 1 }; machine = record n { pc = sym c.address_of-self.ensures j } })
 
 pub returns-then-most-eq0-clause-run : goal.returns-then-most-eq0-clause-run
 returns-then-most-eq0-clause-run g c =
@@ -85,10 +85,10 @@ returns-then-most-eq0-clause-run g c =
           run-at code heads (slice_index immediates k) k m n c.exec_ready.result is c.exec_ready.ensures left w.in-At.to some w.in-At.is
           ∙ ap (λ (t : ℕ). run_of code (left - 1) (at_index n heads t)) (sym w.to-is))
       | in-To+in-Some-index_of w ↦ (
-          run-to code heads (slice_index immediates k) k m n c.exec_ready.result is c.exec_ready.ensures left w.in-To.place some w.in-To.is
-          ∙ ap (λ (p : ℕ). run_of code (left - 1) (record n { place = p })) (sym w.in-Some-index_of.ensures.place ∙ ap (λ (t : ℕ). place_at (head_at heads t).place) (sym w.to-is)))
+          run-to code heads (slice_index immediates k) k m n c.exec_ready.result is c.exec_ready.ensures left w.in-To.address some w.in-To.is
+          ∙ ap (λ (p : ℕ). run_of code (left - 1) (record n { pc = p })) (sym w.in-Some-index_of.ensures.address ∙ ap (λ (t : ℕ). address_at (head_at heads t).index) (sym w.to-is)))
     ] in
-    c.steps.invariant.run ∙ onto ∙ ap (λ (p : ℕ). run_of code (left - 1) (record n { place = p })) (sym c.place_of-self-then-most-eq0.ensures)
+    c.steps.invariant.run ∙ onto ∙ ap (λ (p : ℕ). run_of code (left - 1) (record n { pc = p })) (sym c.address_of-self-then-most-eq0.ensures)
 
 pub steps-preserved : goal.steps-preserved
 steps-preserved g c =
@@ -108,8 +108,8 @@ steps-preserved g c =
           run-at code heads (slice_index immediates k) k m n c.exec_ready.result is c.exec_ready.ensures left w.in-At.to some w.in-At.is
           ∙ ap (λ (t : ℕ). run_of code (left - 1) (at_index n heads t)) (sym w.to-is))
       | in-To+in-Some-index_of w ↦ (
-          run-to code heads (slice_index immediates k) k m n c.exec_ready.result is c.exec_ready.ensures left w.in-To.place some w.in-To.is
-          ∙ ap (λ (p : ℕ). run_of code (left - 1) (record n { place = p })) (sym w.in-Some-index_of.ensures.place ∙ ap (λ (t : ℕ). place_at (head_at heads t).place) (sym w.to-is)))
+          run-to code heads (slice_index immediates k) k m n c.exec_ready.result is c.exec_ready.ensures left w.in-To.address some w.in-To.is
+          ∙ ap (λ (p : ℕ). run_of code (left - 1) (record n { pc = p })) (sym w.in-Some-index_of.ensures.address ∙ ap (λ (t : ℕ). address_at (head_at heads t).index) (sym w.to-is)))
     ] in
     let most : c.saturating_sub-most.result ≡ length heads - to = search rules in
     let enough : c.saturating_sub-most.result ≤ left - 1 = omega arith in
