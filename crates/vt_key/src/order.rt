@@ -169,7 +169,7 @@ impl Stamp {
     }
 }
 
-/// The place of an event in a queue. Ranks compare by the key, and for equal keys by the stamp.
+/// What orders an event in a queue. Ranks compare by the key, and for equal keys by the stamp.
 #[derive(Debug, Clone, Copy, PartialEq, Eq, PartialOrd, Ord, Hash)]
 pub struct Rank {
     /// The event's name in virtual time.

@@ -20,7 +20,7 @@ use std::marker::Model;
 pub struct When {
     /// The tick.
     pub time: u64,
-    /// The place within the tick. 0 is the first.
+    /// The order within the tick: 0 comes first.
     pub priority: u8,
 }
 

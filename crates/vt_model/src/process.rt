@@ -14,6 +14,7 @@ use crate::{Bits, Config, Draws, MAX_DRAWS, MAX_SENDS, Model as EventModel, Out,
 use vt_stream::LpStream;
 
 /// A logical process: its state, its next send number and its random words. For simulators.
+// The order of the fields matters: what every event reads lies together.
 #[derive(Drop)]
 pub struct Process<M: EventModel> {
     /// Its random words.

@@ -93,7 +93,7 @@ impl<P: Copy> Out<P> {
     }
 
     /// Makes this `out` anew, as [`Out::new`] gives it for the same arguments: nothing is sent and nothing recorded. For
-    /// simulators, which execute many events with one `out`: its places are kept. `lp` is below `config.lps`, `now` below
+    /// simulators, which execute many events with one `out`: its room is kept. `lp` is below `config.lps`, `now` below
     /// `config.end()`, and `number` at most 2^63.
     pub fn renew(&mut self, config: Config, lp: u32, now: When, number: u64)
         requires known { lp < config.lps }
@@ -210,7 +210,7 @@ impl<P: Copy> Out<P> {
     }
 }
 
-/// Takes the sends away, and keeps the places in which they lie.
+/// Takes the sends away, and keeps the room in which they lie.
 fn clear_sends<P: Copy>(sends: &mut Option<ArrayVec<Sent<P>, MAX_SENDS, Sent<P>>>)
     ensures { sends_held sends.new ≡ [] }
 {
@@ -219,7 +219,7 @@ fn clear_sends<P: Copy>(sends: &mut Option<ArrayVec<Sent<P>, MAX_SENDS, Sent<P>>
     }
 }
 
-/// Adds a send behind the others, and makes their places if this is the first. There must be room for it.
+/// Adds a send behind the others, and makes their room if this is the first. There must be room for one more.
 fn push_sent<P: Copy>(sends: &mut Option<ArrayVec<Sent<P>, MAX_SENDS, Sent<P>>>, sent: Sent<P>)
     requires room { length (sends_held sends.old) < MAX_SENDS }
     ensures { sends_held sends.new ≡ sends_held sends.old ++ sent ∷ [] }

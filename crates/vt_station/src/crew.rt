@@ -221,6 +221,7 @@ where
     ensures { IsSameWork jobs.old jobs.new }
 {
     let threads = jobs.len();
+    // In generic code a closure that is handed a place by value is refused, so each thread is lent a job.
     thread::for_each_mut(
         rt,
         jobs,
