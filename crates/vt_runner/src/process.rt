@@ -57,6 +57,7 @@ pub fn words_of<H: Env + AllocGlobal>(rt: &H) -> Result<Vec<String>, Fault>
 ///
 /// An option of the model with the name of an option of every model, of help, or of another of the model's is refused before
 /// anything else: the line is `NAME: refused 7 bad option OPTION`, the status is 2, and nothing was read or written.
+// The values come as a slice: a bound `Fn` can't name an array of any length.
 pub fn run_program<
     H: Threads + Wait + Sync + Env + AllocGlobal,
     M: EventModel + Sync + Drop,
@@ -111,6 +112,7 @@ where
 /// The whole program of a model, some of whose options are files: does what the words of the process ask for, as
 /// [`model_program_with_files`] says, and returns the exit status. All else is as [`run_program`] says; the name of a file's option is taken
 /// as that of a number is.
+// It stands beside `run_program`, since what a closure promises can't be weakened under `AskBadLine`.
 pub fn run_program_with_files<
     H: Threads + Wait + Sync + Env + AllocGlobal,
     M: EventModel + Sync + Drop,
