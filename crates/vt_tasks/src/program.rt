@@ -67,6 +67,8 @@ fn answer<
 /// - The answer to the task was this fault.
 ///
 /// `reader` is read, and records are written, by `carry_out` alone.
+// The answer of `carry_out` is a type of its own: a call that hands on a `Fault` from a closure is refused by the borrow checker. No
+// trait stands in the closure's place: an `impl` of one can't ask that a model's states are `Send`.
 pub fn models_program<
     H,
     S: AsStr,

@@ -16,7 +16,7 @@ use Rattle.vt_lp.specs.inside.Held.{HeldProcess, process_memory, AllWithinRun, I
 use Rattle.vt_outbox.specs.inside.Outbox.{HeldOutbox}
 
 -- what a contract sees of a worker: its number and the config, and all that a part of a world has, with its processes as they
--- are in memory. Process p is at index p / workers
+-- are in memory. Process p is at index p / workers. It stays flat, with no part inside: contracts of some 70 calls name its fields
 pub record HeldWorker (S P K : Type 0) : Type 0 where
   pub worker : ℕ
   pub config : Config

@@ -18,7 +18,8 @@ use Rattle.vt_kernel.specs.inside.Held.{HeldWorker, part_memory, AllOwnMail}
 use Rattle.vt_kernel.specs.inside.Guards.{held_letters}
 use Rattle.vt_kernel.specs.promise.Refusals.{PassesLimit, IsStepRefusal}
 
--- what a contract sees of a world in memory: its model and config, its workers, the inboxes, the board and the book
+-- what a contract sees of a world in memory: its model and config, its workers, the inboxes, the board and the book. It stays flat, as
+-- `HeldWorker` does
 pub record HeldWorld (M S P K : Type 0) : Type 0 where
   pub model : M
   pub config : Config
