@@ -66,6 +66,8 @@ impl<M: EventModel> Process<M> {
     ///
     /// The event's receiver is below `config.lps`, and the stream is the receiver's. The send number may be above 2^63
     /// afterwards: the caller undoes the event then.
+    // Inlined, so that what is kept isn't copied where the caller drops it, and once less where it doesn't.
+    #[inline(always)]
     pub fn execute_into(
         &mut self,
         model: &M,
