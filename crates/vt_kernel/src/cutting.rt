@@ -18,7 +18,7 @@ use vt_model::Model as EventModel;
 
 impl<M: EventModel> Kernel<M> {
     /// The worker's part of a cut: it changes its colour, its red minimum becomes the end of the run, and its floor
-    /// becomes the announced time.
+    /// becomes the announced time. Its counts of mail stay: they only rise.
     pub fn turn(&mut self, announced: When)
         ensures turned { self.new ≡ record self.old { colour = other_colour self.old.colour; red_minimum = (end_of self.old.config); floor = announced } }
         ensures stands { (handlers : Handlers _ _ _) (part : Part _) → StandsFor handlers self.old part → StandsFor handlers self.new (part_after_cut (end_of self.old.config) announced part) }

@@ -1,4 +1,5 @@
-//! PHOLD: events that each send just one other, so that their number stays the same.
+//! PHOLD: events that each send just one other, so that their number stays the same. `bench/handlers` edits this file, and finds the texts
+//! that it replaces as they stand here.
 
 ghost use Rattle.std.specs.Prelude.{◌≡◌, ◌≤◌, None, IfOk, IfErr, IsSome};
 ghost use Rattle.vt_key.specs.promise.Faults.{option_named};

@@ -268,6 +268,7 @@ impl<'a, M: EventModel> Driver<'a, M> {
 
     /// Takes part in the round of global virtual time by one cut or one report, and returns whether one was done.
     /// After that it doesn't ask again until the round has moved on, unless another place had claimed the board.
+    // All wait for the last report. So nothing that can wait stands between a worker's cut and its report.
     fn agree(&mut self) -> Result<bool, Fault>
         ensures part { IsPartOfTurn self.old self.new result }
     {
@@ -465,7 +466,7 @@ impl<'a, M: EventModel> Driver<'a, M> {
     }
 
     /// Makes turn after turn, until the book is closed, a call is refused for good, or the worker has made so many turns since it
-    /// began.
+    /// began. It ends some turns after another worker has left early, too.
     pub(crate) fn run<R: Wait, G: Gate, W: Watch>(
         &mut self,
         rt: &R,

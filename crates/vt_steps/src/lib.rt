@@ -2,7 +2,7 @@
 //!
 //! The definitions in `specs` are functions on plain values: they know no thread, no loop and no memory. A world of
 //! the definitions holds no state of the model, since a logical process's state follows from the events that it has
-//! executed.
+//! executed. They know a model as a `Simulation` alone, with no trait and no code.
 #![tactic(auto)]
 
 mod histories;

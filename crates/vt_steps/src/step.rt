@@ -8,6 +8,8 @@ use vt_key::{Stamp, When};
 /// Executing, undoing and cancelling are Jefferson's (Virtual Time, 1985). Cutting and reporting agree on his global
 /// virtual time, by Mattern's two cuts (Efficient Algorithms for Distributed Snapshots and Global Virtual Time
 /// Approximation, 1993).
+///
+/// A counter that is spent and memory that is refused are no steps: what they refuse stands in no list of steps.
 #[derive(Debug, Clone, Copy, PartialEq, Eq)]
 pub enum Step {
     /// This process executes its least pending event.

@@ -1,5 +1,6 @@
 -- Virtual times. A time is a pair of a tick and a priority, and stands here as one number. The order of the numbers is the order
--- of the pairs: by the tick, then by the priority. Everything uses only this order, except a send and the proof that a run ends.
+-- of the pairs: by the tick, then by the priority. Steps and the sequential run use this order alone. Sends, records and programs read
+-- the tick and the priority.
 use Rattle.std.specs.Prelude.{ℕ, ◌+◌, ◌-◌, ◌*◌, ◌/◌, ◌%◌, ◌<◌, ◌≤◌, Bool, nat_lt, nat_le, min}
 
 -- a virtual time

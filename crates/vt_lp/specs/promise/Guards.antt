@@ -1,4 +1,4 @@
--- What the calls of a process answer and leave, by the steps of a world's process.
+-- The send number of a process.
 use Rattle.std.specs.Prelude.{ℕ, ◌++◌}
 use Rattle.vt_model.specs.promise.Simulation.{Simulation}
 use Rattle.vt_steps.specs.promise.World.{LogicalProcess, triple_after}

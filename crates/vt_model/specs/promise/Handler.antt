@@ -1,4 +1,4 @@
--- What the handlers of a model give, and the limits that they keep.
+-- What the handlers of a model give.
 use Rattle.std.specs.Prelude.{ℕ, List}
 use Rattle.vt_key.specs.promise.Times.{Time}
 use Rattle.vt_model.specs.declared.flags.Bits.{Bits}

@@ -25,7 +25,7 @@ pub record Fired (S P : Type 0) : Type 0 where
   pub rows : List Row
 
 -- a simulation: its numbers, the start of each process, what an event does at a process that stands somewhere, and the
--- final value of a process
+-- final value of a process. The steps and their world know a model as this record alone
 pub record Simulation (S P : Type 0) : Type 0 where
   pub lps : ℕ
   pub workers : ℕ

@@ -1,5 +1,4 @@
 -- The work of a crew of workers.
--- why records couldn't be handed out
 use Rattle.std.specs.Prelude.{◌≡◌, ◌⊎◌, ℕ, ◌<◌, List, [], ◌∷◌, length, drop, ◌≤◌, ◌^◌, All, Option, Some, None, slice_get, slice_index_or, IfSome}
 use Rattle.atomic_table.specs.Seated.{TableId}
 use Rattle.vt_key.specs.declared.fault.Fault.{Fault}

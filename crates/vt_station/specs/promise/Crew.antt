@@ -1,5 +1,4 @@
 -- The work of a crew of workers.
--- why records couldn't be handed out
 use Rattle.std.specs.Prelude.{◌≡◌, ◌⊎◌, ◌<◌, List, []}
 use Rattle.vt_key.specs.declared.fault.Fault.{Fault}
 use Rattle.vt_key.specs.declared.fault.Fault.TheVariants.{Busy, TurnsSpent}

@@ -291,7 +291,7 @@ same-balance old new o a p = record {
   entries = λ g. (let z = ap (sum_by (process_entries g)) p in omega arith);
 }
 
--- the process_after_commit entries are the same entries
+-- a map that keeps what is counted of each keeps the sum
 sum_by-map_same : {X : Type 0} (f : X → ℕ) (h : X → X) → ((x : X) → f (h x) ≡ f x) → (xs : List X) → sum_by f (map h xs) ≡ sum_by f xs
 sum_by-map_same f h same [] = refl
 sum_by-map_same f h same (x ∷ xs) =

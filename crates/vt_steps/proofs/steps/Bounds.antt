@@ -1,4 +1,4 @@
--- AllByRecursion event of a reached world is for a known process, and before the end of the run.
+-- Each event of a reached world is for a known process, and before the end of the run.
 use Rattle.std.proofs.Common.{ℕ, ◌%◌, ◌<◌, List, sym, subst}
 use Rattle.std.specs.List.{AllByRecursion}
 use Rattle.vt_key.specs.promise.Times.{TimeBefore}

@@ -1,4 +1,4 @@
--- What a step does, case by case: each proof about `next` goes over these cases, and opens no definition of a step.
+-- What a step does, case by case: what each of these changes keeps is proved over the cases.
 use Rattle.std.proofs.Common.{◌≡◌, ℕ, ◌/◌, ◌%◌, Bool, true, false, cond, List, [], ◌∷◌, ◌++◌, refl, ◌∙◌, ap, Option, Some, None, slice_get, slice_set}
 use Rattle.std.specs.List.{find, last_or, remove}
 use Rattle.std.specs.Option.{option_map, option_and_then}

@@ -1,4 +1,4 @@
--- Rows in order: field by field from the left. In a run no two rows have the same key and index, so these two decide.
+-- Lists with the same rows.
 use Rattle.std.specs.Prelude.{◌≡◌, false, List, ℕ}
 use Rattle.std.specs.List.{sum_by, AllByRecursion}
 use Rattle.vt_model.specs.declared.rows.Row.{Row}

@@ -1,14 +1,9 @@
--- A world of a Time Warp run: what each worker has, what travels between workers, the board on which global virtual time
--- is agreed, and the book of committed rows. No state of a model stands in it.
+-- How much mail travels between workers.
 use Rattle.std.specs.Prelude.{ℕ}
 use Rattle.std.specs.List.{sum_by}
 use Rattle.vt_key.specs.declared.letter.Colour.{Colour}
 use Rattle.vt_steps.specs.promise.Letters.{count_colour}
 use Rattle.vt_steps.specs.promise.World.{World}
-
--- ---- histories
-
--- ---- what is unprocessed or travelling
 
 module _ {P : Type 0} where
   -- how much mail of a colour is travelling: in all inboxes

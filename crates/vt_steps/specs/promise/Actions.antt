@@ -16,7 +16,7 @@ pub data Action (P : Type 0) : Type 0 where
   at_book : ℕ → (Part P → Book → Option (CellEffect P Book)) → Action P
   on_book : (Book → Option Book) → Action P
 
--- the steps: those at process p are about the part of worker p mod workers, at index p / workers
+-- the steps, which are listed here alone: those at process p are about the part of worker p mod workers, at index p / workers
 abbrev pub action_of : {S P : Type 0} → Simulation S P → Step → Action P
 action_of sim (Execute p) = on_part (p % sim.workers) (execute sim (p % sim.workers) (p / sim.workers))
 action_of sim (Undo p) = on_part (p % sim.workers) (undo (p / sim.workers))

@@ -1,11 +1,8 @@
--- What each step reads and changes: the part of one worker, and the content of at most one cell, which is an inbox, the
--- board or the book. `act` is a step on these two alone.
+-- The worker whose part each step reads and changes.
 use Rattle.std.specs.Prelude.{ℕ, Option, Some, None}
 use Rattle.vt_model.specs.promise.Simulation.{Simulation}
 use Rattle.vt_steps.specs.declared.step.Step.{Step}
 use Rattle.vt_steps.specs.promise.Actions.{Action, on_part, at_inbox, at_board, at_book, on_book, action_of}
-
--- ---- whose part and which cell a step is about
 
 -- the worker whose part it is about
 abbrev pub action_worker : {P : Type 0} → Action P → Option ℕ

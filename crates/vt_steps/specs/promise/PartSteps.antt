@@ -1,5 +1,4 @@
 -- Steps at the part of one worker: the five local steps whole, and what the other steps do to the part.
--- ---- Execute, Undo and Cancel
 use Rattle.std.specs.Prelude.{ℕ, ◌+◌, ◌/◌, ◌%◌, Bool, not, nat_eq, List, ◌++◌, map, length, take, drop, slice_get, slice_set, Option}
 use Rattle.std.specs.List.{filter, find, prefix_len, remove, flat_map, enumerate_from}
 use Rattle.std.specs.Option.{option_and_then, option_map}
@@ -82,7 +81,7 @@ unfoldable pub part_after_fetch : {P : Type 0} → List (Mail P) → Part P → 
 part_after_fetch inbox part =
     record part { arrived = inbox; got = raised (raised part.got White (count_colour White inbox)) Red (count_colour Red inbox) }
 
--- Cut: the worker takes the other colour, has sent nothing in it, and learns the announced time
+-- Cut: the worker takes the other colour, has sent nothing since, and learns the announced time. Its counts stay: they only rise
 unfoldable pub part_after_cut : Time → Time → {P : Type 0} → Part P → Part P
 part_after_cut end announced part =
     record part { colour = other_colour part.colour; red_minimum = end; floor = announced }

@@ -52,7 +52,8 @@ module _ {P : Type 0} where
 
   -- ---- Undo
 
-  -- an event of this rank has to be undone: a pending rank is less, or a waiting one is at most this one
+  -- an event of this rank has to be undone: a pending rank is less, or a waiting one is at most this one. So an undo makes nothing
+  -- earlier than what is unprocessed already, and global virtual time bounds all undos
   abbrev pub must_undo : List (Letter P) → List (Letter P) → Rank → Bool
   must_undo pending waiting rank =
       list_any (λ letter. rank_before letter.event.rank rank) pending
