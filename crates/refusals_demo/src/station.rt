@@ -71,6 +71,10 @@ fn hand_out(
     worker.hand_out(from, records)
 }
 
+fn finals(worker: &mut Worker<'_, Hop>) -> Result<Vec<u64>, Fault> {
+    worker.finals()
+}
+
 fn kernel<'k>(worker: &'k Worker<'_, Hop>) -> &'k Kernel<Hop> {
     worker.kernel()
 }
@@ -106,6 +110,7 @@ fn play(alloc: Global, worker: &mut Worker<'_, Hop>, line: &str, page: &mut Page
         "post" | "fetch" | "cut" | "commit" | "close" => page.answer(shared(worker, line)),
         "report" => report(worker, page),
         "records" => page.records_given(records(worker)),
+        "finals" => page.numbers_given(finals(worker)),
         "hand_out" => tell_handed(alloc, worker, number(line, 2) as usize, page),
         _ => look(kernel(worker), line, page),
     }
@@ -288,7 +293,9 @@ const CLOSED: &str = "\
 1 records
 1 commit
 1 close
-0 records";
+0 records
+0 finals
+1 finals";
 
 // Plays texts on two workers with a process each.
 fn play_pair(rt: &HostRuntime, pages: &mut Pages, texts: &[&str]) -> io::Result<()> {
@@ -327,6 +334,7 @@ pub(crate) fn handed_out(rt: &HostRuntime, pages: &mut Pages) -> io::Result<()> 
 
 /// Nothing was visited yet. One letter is in the outbox of each, for a process of the worker itself.
 const BEFORE_ANY_VISIT: &str = "\
+0 finals
 0 records
 1 records
 0 close
@@ -396,7 +404,8 @@ const ALONE: &str = "\
 0 records
 0 close
 0 hand_out 0
-0 records";
+0 records
+0 finals";
 
 /// One worker alone.
 pub(crate) fn alone(rt: &HostRuntime, pages: &mut Pages) -> io::Result<()> {
