@@ -1,4 +1,4 @@
-//! Commit and Close, on a kernel and the book.
+//! Commit, on a kernel and the book, and Close, on the book.
 
 ghost use Rattle.std.specs.Prelude.{◌≡◌, false, IfErr, MatchResult};
 ghost use Rattle.vt_key.specs.declared.fault.Fault.TheVariants.{Memory};

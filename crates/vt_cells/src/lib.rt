@@ -1,4 +1,5 @@
-//! The steps that reach beyond one worker: each on a kernel and on what a cell holds, which is an inbox, the board or the book.
+//! The steps that reach beyond one worker: each on a kernel and on what a cell holds, which is an inbox, the board or the book. Close is on
+//! the book alone.
 #![tactic(auto)]
 
 mod committing;

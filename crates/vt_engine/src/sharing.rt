@@ -73,7 +73,7 @@ impl<M: EventModel> Engine<M, SHARE> {
         }
     }
 
-    /// How many letters events made and how many were taken back since the last call, and how many events were undone. They are
+    /// How many messages events made and how many were taken back since the last call, and how many events were undone. They are
     /// hints: no contract says what they are.
     pub fn take_hints(&mut self) -> (usize, usize, u64)
         ensures { self.new ≡ self.old }

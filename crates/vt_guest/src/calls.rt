@@ -83,7 +83,7 @@ pub(crate) enum Next {
     Trapped(Reason),
 }
 
-// The low 32 bits of a number.
+// The low 32 bits of a number. C extends numbers of 32 bits by their sign, so these alone count.
 #[inline(always)]
 fn low(x: u64) -> u32
     ensures { result ≡ low x }

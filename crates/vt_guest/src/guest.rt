@@ -84,6 +84,7 @@ where
 
     type Payload = Words;
 
+    // The whole state. What is kept has one size, so the words that changed would take as much room.
     type Kept = Process<SIZE>;
 
     ghost use Rattle.std.proofs.Common.{lit<, lit≤};

@@ -18,7 +18,7 @@ use crate::trap::{Reason, reason_of};
 use vt_model::{Draws, Out};
 use vt_riscv::{Code, Core, RETURN, STACK, STATE, Stop};
 
-// The stack at the beginning of a handler.
+// The stack at the beginning of a handler: all zero, since nothing but the state is kept from one handler to the next.
 #[inline]
 fn blank_stack() -> [u8; STACK]
     ensures { result ≡ blank_stack }

@@ -287,6 +287,7 @@ fn assemble(
         symbols,
     } = executable;
     let entries = find_entries(&symbols)?;
+    // Before `Code::new`, which decodes what it is handed.
     set_all(&symbols, sets, &mut image, &mut first_state)?;
     let processes = find_processes(&symbols, &image, &first_state)?;
     let Ok(code) = Code::new(alloc, image, code_size, input, is_compressed) else {

@@ -16,6 +16,7 @@ use vt_outbox::Outbox;
 ///
 /// Contracts see these (`HeldWorker`). The value keeps no committed events. So a contract speaks of every part of a
 /// world that the value stands for (`StandsFor`).
+// It keeps no model and no spare nodes: calls are handed the one, and free the others.
 #[derive(Drop)]
 pub struct Kernel<M: EventModel> {
     pub(crate) config: Config,

@@ -2,7 +2,8 @@
 //! and serials.
 //!
 //! Each call is this worker's part of one step of a world, or a list of such steps. So any driver (a replay, a test,
-//! a thread) rests on the same contracts.
+//! a worker driven by hand) rests on the same contracts. It stays plain, with a call for each local step: workers in threads run a
+//! `Share`, which has the same clauses for the steps that both have.
 #![tactic(auto)]
 
 mod asking;

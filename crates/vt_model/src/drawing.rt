@@ -12,7 +12,7 @@ use vt_stream::LpStream;
 ///
 /// They are the next words of the stream of the handler's own process. No other process draws from it, so what a process
 /// draws depends on the seed, on the process and on how many words it drew before, and on nothing that others do. The
-/// kernel gives the words back by itself when it undoes the event.
+/// simulator gives the words back by itself when it undoes the event.
 #[derive(Drop)]
 pub struct Draws<'a> {
     stream: &'a mut LpStream,

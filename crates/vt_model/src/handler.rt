@@ -84,7 +84,7 @@ pub trait Model {
 
     /// Undoes an event: it restores the state from before its `forward`. It is handed the state, the bits and what was kept, as
     /// `forward` left them, and the same `lp`, `now` and `payload`. It draws nothing, sends nothing and makes no records: the
-    /// kernel takes those back by itself.
+    /// simulator takes those back by itself.
     ///
     /// Nothing is required here either. At other values it has to give what the definitions say. That it restores the state is
     /// the law `undoes`.

@@ -29,7 +29,7 @@ impl Record {
     }
 }
 
-/// A record with its place in the run: the key of its event, and its index among that event's records, from 0.
+/// A record with its position in the run: the key of its event, and its index among that event's records, from 0.
 ///
 /// Rows compare field by field. In a run no two have the same key and index, so these two decide.
 #[derive(Debug, Clone, Copy, PartialEq, Eq, PartialOrd, Ord)]

@@ -33,6 +33,7 @@ impl<P: Copy> MadeWith<Sent<P>> for Sent<P> {
 /// Each send takes the next send number of its process. One that would be received at the end of the run or later takes its
 /// number and isn't sent, so the numbers of a process don't depend on the end. What an event sent and recorded is taken back
 /// with it when it is undone; records come out once it no longer can be.
+// No struct of a simulator holds one. With a state beside it, it would owe bounds on its size wherever it is used.
 #[derive(Drop)]
 pub struct Out<P: Copy> {
     lps: u32,

@@ -9,7 +9,7 @@ use std::ptr::{NonNull, null_mut};
 /// A pointer that may be null: where a block lies, or nothing. A clause sees an `Option` of the address.
 ///
 /// A link doesn't say what type lies there. The code that follows a link owns the block, and knows its type.
-// With a type parameter it couldn't be copied out of what is borrowed, since it has an `impl Model`.
+// It is no `Option` of a pointer, which has a tag of 8 bytes. With a type parameter it couldn't be copied out of what is borrowed, since it has an `impl Model`.
 #[derive(Clone, Copy)]
 pub struct Link {
     at: *mut u8,

@@ -1,4 +1,4 @@
-//! The program `twarp`, as a function of its words, a reader and two writers.
+//! The program `twarp`, as a function of its words, the files that they name, a reader and two writers.
 //!
 //! It stands in a library, since no crate can depend on one with a `main`. So tests and other crates can run the
 //! whole program with writers of their own.

@@ -39,6 +39,7 @@ pub enum Unmade {
     /// The values make no model, for this reason.
     Values(String),
     /// The file of this index, in the order of the table, makes no model, for this reason.
+    // An index: a closure's answer with a `&'static str` is refused by the borrow checker.
     File(usize, String),
 }
 

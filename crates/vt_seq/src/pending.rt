@@ -79,6 +79,7 @@ impl<P: Copy> PendingEvents<P> {
         ensures unchanged { IfErr result (λ _. self.new ≡ self.old) }
         ensures refused { IfErr result (λ fault. fault ≡ Memory) }
     {
+        // The heap takes what the calendar doesn't. So room in the heap is enough.
         let Ok(()) = self.far.reserve(sends.len()) else {
             return Err(Fault::Memory);
         };

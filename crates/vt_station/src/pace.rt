@@ -1,8 +1,7 @@
 //! How far a worker executes ahead of the others, and for how many turns once another one has left.
 //!
 //! A turn executes at most as many events as the worker's bound says. Each cut of the worker changes it: it is halved where
-//! too much was taken back, and rises by one where little was. Letters are counted, since the length of the outbox tells
-//! their number.
+//! too much was taken back, and rises by one where little was. Both are counted in messages, as the worker tells by its hints.
 //!
 //! A worker that has received mail from others is held if its bound is 1 or its patience is over: it executes one event, and
 //! then waits for mail or for the round. In a run that isn't calm a cut or a report alone tells nothing of progress: the

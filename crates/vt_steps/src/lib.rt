@@ -1,6 +1,6 @@
 //! What a Time Warp run means: the world of a run, its eleven steps, and what holds after any list of them.
 //!
-//! The definitions in `specs` are functions on plain values: they know no thread, no loop and no memory. A world of
+//! The definitions in `specs` are functions on plain values: they know no thread, no loop and no allocator. A world of
 //! the definitions holds no state of the model, since a logical process's state follows from the events that it has
 //! executed. They know a model as a `Simulation` alone, with no trait and no code.
 #![tactic(auto)]

@@ -18,7 +18,7 @@ const FINAL: &[u8] = b"final ";
 /// The most bytes of the line of a final value: that word, two numbers, a space and a newline.
 const FINAL_LEN: usize = 6 + 2 * NUMBER_LEN + 2;
 
-/// The line with which the text of records begins in a version; nothing without one.
+/// The line with which the text of records begins in a version; nothing without one, since the line names the version of the records.
 pub(crate) fn first_of(shown: Option<Version>) -> &'static [u8]
     ensures { result.now ≡ printed_first shown }
 {

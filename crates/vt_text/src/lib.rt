@@ -1,4 +1,4 @@
-//! The text that the program reads and writes: numbers, the lines of records, and the line of a refusal.
+//! The text that the program reads and writes: numbers, and the lines of records.
 //!
 //! Nothing here takes memory: text is gathered in a [`TextBuffer`] of a fixed size and goes out from there.
 #![tactic(auto)]

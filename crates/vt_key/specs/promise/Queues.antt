@@ -1,4 +1,5 @@
 -- Lists in some order, letters by their ranks and stamps, and what is put into such a list or taken out of it.
+-- They stand below lists and steps, so that no lemma joins the words of code with those of definitions.
 use Rattle.std.specs.Prelude.{Bool, List, [], ◌∷◌, if◌then◌else◌}
 use Rattle.vt_key.specs.promise.Order.{rank_before, rank_same, stamp_same}
 use Rattle.vt_key.specs.declared.order.Rank.{Rank}

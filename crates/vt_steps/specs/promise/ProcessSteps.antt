@@ -1,5 +1,5 @@
 -- Steps at one process: Execute, Undo, Cancel, and a letter that comes. A function to an Option gives None where the guard
--- of its step fails.
+-- of its step fails. A guard takes no process, but lists, ranks, stamps and letters: so contracts of code cite it as it stands.
 use Rattle.std.specs.Prelude.{ℕ, ◌-◌, Bool, true, false, not, ◌||◌, List, [], ◌∷◌, ◌++◌, map, length, take, if◌then◌else◌, Option, Some, None}
 use Rattle.std.specs.List.{find, list_any, last_or}
 use Rattle.std.specs.Option.{option_map_or, option_and_then}
