@@ -11,8 +11,8 @@ use vt_models::{
 use vt_options::{GENERAL, ModelOptions, ModelTable, OptionText, OwnOption, ProgramTexts, Takes};
 
 const IN_SHORT: &str = "\
-A first run: twarp run (six records of two processes). README.md tells more, docs/MODEL_GUIDE.md
-how to write a model of your own.
+A first run: twarp run (six records of two processes). README.md tells more, docs/MODEL_IN_C.md
+how to bring a model in C or another language, and docs/MODEL_GUIDE.md how to write one in Rattle.
 
 Options (twarp run --help and twarp replay --help say what each is, its range and its default):
   every model  --model hop|phold|stations  --workers N  --lps N  --end N  --seed N  --text 1|2

@@ -198,7 +198,7 @@ pub(crate) const PROGRAM: OptionText = OptionText {
     name: "program",
     value: "FILE",
     heading: PROGRAMS_HEADING,
-    takes: Takes::Other("the place of --model"),
+    takes: Takes::Other("a file where there is no --model"),
     help: "Executable whose handlers are simulated, in the place of --model",
 };
 
