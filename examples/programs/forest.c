@@ -1,6 +1,6 @@
 // Patches of forest on a ring. Lightning sets a patch on fire, the fire passes on to both neighbours, and the trees grow again.
 // A record is made when a patch burns: kind 0 if lightning struck it, kind 1 if a neighbour's fire did, and how many ticks have
-// passed since it burnt last.
+// passed since it burnt last. docs/MODEL_IN_C.md shows this file in short.
 #include "twarp.h"
 #include "twarp_draws.h"
 

@@ -1,6 +1,6 @@
 // A closed network of stations with one server each: jobs queue, are served one at a time, and travel to a drawn station.
 // It makes the records of `twarp run --model stations`: kind 3, how many jobs are at a station after one has come; kind 4,
-// how many it has served.
+// how many it has served. README.md shows this file in short.
 #include "twarp.h"
 
 const volatile u32 jobs = 1;     // at each station at the start, 0 to 1,000

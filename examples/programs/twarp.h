@@ -14,7 +14,7 @@ _Static_assert(sizeof(u16) == 2 && sizeof(u32) == 4 && sizeof(u64) == 8, "a mach
 
 // The handlers. start: the state of process lp at time 0, and its first sends; it makes no records. forward: an event with
 // the two numbers that it carries; it sends at most 16 events, makes at most 4 records, and draws at most 64 words. finish:
-// the final value of the process, of its state at the end of the run; it makes no calls.
+// the final value of the process, of its state at the end of the run; it draws, sends and records nothing, and has no lps().
 void start(u32 lp);
 void forward(u32 lp, u64 tick, u32 priority, u64 a, u64 b);
 u64 finish(u32 lp);

@@ -75,6 +75,7 @@ impl<'m> Run<'m> {
     }
 
     /// One round of a worker: mail comes in, each of its processes goes on, mail goes out, and it agrees on global virtual time.
+    // docs/WORLD.md quotes it.
     fn serve(&mut self, alloc: Global, worker: u32) -> Result<(), Fault> {
         self.take(alloc, Step::Fetch(worker))?;
         self.repeat(alloc, Step::Accept(worker, 0))?;

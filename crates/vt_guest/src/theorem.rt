@@ -17,7 +17,7 @@ ghost use Rattle.vt_guest.specs.inside.Showing.{IsTrapEvent, IsFailedStart};
 use crate::guest::Guest;
 use vt_model::Config;
 
-/// A trap is a result, of every program. An event whose handler traps leaves the state as it was, sends nothing, and makes one
+/// A trap of a start or of an event is a result, of every program. An event whose handler traps leaves the state as it was, sends nothing, and makes one
 /// record, which has the trap's reason and address. An event at a process whose start trapped makes the record of that trap, and does
 /// nothing else. A start that traps leaves the first state, marked, and sends one event, to its own process at time (0, 1).
 pub fn traps_are_results<const SIZE: usize>()

@@ -178,7 +178,7 @@ impl Meter {
         self.show_end(alloc, self.age(rt, start), terminal);
     }
 
-    /// Writes the last line of a run that took long, or in which a handler trapped.
+    /// Writes the last line of a run that took long, or whose records tell of a trap.
     fn show_end<E: Write>(&self, alloc: Global, age: u64, terminal: &mut E) {
         self.clear(terminal);
         let whole = self.read();

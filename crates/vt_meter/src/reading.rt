@@ -15,7 +15,7 @@ pub struct Reading {
     pub executed: u64,
     /// How many of them were undone.
     pub undone: u64,
-    /// How many handlers trapped.
+    /// How many records of traps were written. A trap in a start counts at each event of its process, and one in a finish never.
     pub trapped: u64,
 }
 

@@ -169,7 +169,7 @@ impl<P: Copy> Out<P> {
     }
 
     /// Makes a record with this process and time. What `kind` stands for, the model says. There must be room
-    /// ([`Out::emit_room`]).
+    /// ([`Out::emit_room`]). Kind 4294967295 is that of traps of programs: what is shown of a run on a terminal counts it as one.
     pub fn emit(&mut self, kind: u32, value: u64)
         requires room { length self.old.records < MAX_RECORDS }
         ensures { self.new ≡ with_requests self.old [] (record { kind = kind; value = value } ∷ []) }

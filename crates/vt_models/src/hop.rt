@@ -1,4 +1,6 @@
 //! Tokens that hop from process to process: the smallest model that shows the order of events.
+//!
+//! `examples/programs/hop.c` makes the same records: change both.
 
 ghost use Rattle.std.specs.Prelude.{◌≡◌, ◌≤◌, None, IfOk, IfErr, IsSome};
 ghost use Rattle.vt_key.specs.promise.Faults.{option_named};

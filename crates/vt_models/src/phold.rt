@@ -1,5 +1,7 @@
 //! PHOLD: events that each send just one other, so that their number stays the same. `bench/handlers` edits this file, and finds the texts
 //! that it replaces as they stand here.
+//!
+//! `examples/programs/phold.c` makes the same records: change both.
 
 ghost use Rattle.std.specs.Prelude.{◌≡◌, ◌≤◌, None, IfOk, IfErr, IsSome};
 ghost use Rattle.vt_key.specs.promise.Faults.{option_named};

@@ -1,4 +1,6 @@
 //! A closed network of stations: jobs queue at servers, are served one at a time, and travel on.
+//!
+//! `examples/programs/stations.c` makes the same records: change both.
 
 ghost use Rattle.std.specs.Prelude.{◌≡◌, ◌+◌, ◌^◌, ◌<◌, ◌≤◌, [], ◌∷◌, None, IfOk, IfErr, IsSome};
 ghost use Rattle.vt_key.specs.promise.Faults.{option_named};

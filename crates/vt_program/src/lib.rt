@@ -57,8 +57,8 @@ pub use vt_watch::{Progress, Unwatched, Watch};
 ///   replay, its answer says so, and the replay goes on.
 /// - N = 3: the committed records of a run in threads couldn't be read. Those below some earlier time were written to `out`, or
 ///   none. It is never so with one worker.
-/// - N = 5: a send number of a run would pass 2^63, or a serial of a run in threads or at the starts of a replay.
-///   Nothing was written to `out`; or of a sequential run, a beginning of the text; or of a run in threads, the
+/// - N = 5: a send number of a run would pass 2^63, or a serial of a run in threads or at the starts of a replay, or a count of
+///   mail or of rounds of a run in threads. Nothing was written to `out`; or of a sequential run, a beginning of the text; or of a run in threads, the
 ///   committed records.
 /// - N = 6: a worker of a run in threads made all its turns before the end of the run, and the committed records were
 ///   written to `out`.

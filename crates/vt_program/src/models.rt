@@ -147,7 +147,8 @@ pub(crate) fn carry_out<H: Threads + Wait + Sync, W: Watch + Sync, R: Read, O: W
     }
 }
 
-/// Does a task with the model that the words choose, or with the program in its place, as [`carry_out`] does.
+/// Does a task with the model that the words choose, or with the program in its place, as [`carry_out`] does. A program is refused before
+/// anything is read of the input.
 pub(crate) fn answer_task<H: Threads + Wait + Sync, D: Files, W: Watch + Sync, R: Read, O: Write>(
     rt: &H,
     alloc: Global,

@@ -1,4 +1,4 @@
-//! Cars on a grid of one-way roads with signalled junctions.
+//! Cars on a grid of one-way roads with signalled junctions. `examples/programs/traffic.c` makes the same records: change both.
 
 ghost use Rattle.std.specs.Prelude.{◌≡◌, ◌+◌, ◌<◌, ◌≤◌, [], ◌∷◌, length, None, Some, IfOk, IfErr, IsSome};
 ghost use Rattle.vt_key.specs.promise.Faults.{option_named};
