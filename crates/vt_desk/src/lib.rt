@@ -10,8 +10,8 @@ use vt_parts::{Histogram, Ring, exponential};
 /// How many customers can wait.
 pub const ROOM: usize = 4;
 
-/// How many kinds of waits are counted, each ten ticks long.
-pub const KINDS: usize = 8;
+/// How many bins of waits are counted, each ten ticks wide.
+pub const BINS: usize = 8;
 
 // The mean time between two customers, in ticks.
 const GAP: u32 = 12;
@@ -34,7 +34,7 @@ pub struct Desk {
     /// The tick at which each customer in the line came.
     pub line: Ring<u64, ROOM>,
     /// How long those waited who were served.
-    pub waits: Histogram<KINDS>,
+    pub waits: Histogram<BINS>,
 }
 
 /// Desks, each with a line of its own.

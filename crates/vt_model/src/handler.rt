@@ -19,6 +19,9 @@ use vt_key::When;
 /// but its arguments and the words that it draws, so a run is a function of the model, the config and the seed. It takes no
 /// memory and can't fail.
 ///
+/// For a run on workers the model is `Sync`, and a state and what is kept are `Send`. A state, a payload and what is kept are best small:
+/// each event copies them.
+///
 /// A model brings the member `handlers`, which says what its handlers give, and proofs of the laws below it.
 /// `docs/MODEL_GUIDE.md` says how to write one.
 pub trait Model {

@@ -183,8 +183,8 @@ impl<P: Copy> Out<P> {
         });
     }
 
-    /// Takes back what the handler sent and recorded so far: this `out` is as it was when the handler began. For a handler that finds
-    /// out late that it fails.
+    /// Takes back what the handler sent and recorded so far: this `out` is as it was when the handler began. For a handler that runs
+    /// somebody's program, which may trap late.
     pub fn take_back(&mut self)
         ensures { self.new ≡ taken_back self.old }
     {

@@ -232,7 +232,7 @@ pub(crate) const FUEL: OptionText = OptionText {
 /// The options of programs.
 pub(crate) static OF_PROGRAMS: [OptionText; 4] = [PROGRAM, SET, DATA, FUEL];
 
-/// The options of every model, each once.
+/// The options of every model, each once. A model's own option can't have one of these names.
 pub(crate) static EVERY_MODEL: [OptionText; 10] = [
     SYNCH, WORKERS, LPS, END, SEED, TURNS, SERIAL, TEXT, FINALS, RECORDS,
 ];

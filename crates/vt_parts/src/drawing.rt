@@ -9,7 +9,7 @@ ghost use Rattle.vt_parts.specs.inside.Drawing.{happens, chosen, weight_drawn, f
 
 use vt_model::Draws;
 
-/// Draws a yes or no: true with a probability of `numerator / denominator`, and always if that is above 1. The denominator is from 1
+/// Draws a yes or no: true with a probability of `numerator / denominator`, to within 2^-32, and always if that is above 1. The denominator is from 1
 /// to 2^32. It draws one word, for which there must be room ([`Draws::room`]).
 pub fn bernoulli(draws: &mut Draws<'_>, numerator: u64, denominator: u64) -> bool
     requires room { drawn_in draws.old < MAX_DRAWS }

@@ -7,7 +7,7 @@ ghost use Rattle.vt_parts.specs.inside.Ring.{IsRing, held, item_count, empty_rin
 /// call answered. Two rings are equal where their items stand in the same slots and the other slots hold the same values.
 #[derive(Debug, Clone, Copy, PartialEq, Eq)]
 pub struct Ring<T: Copy, const N: usize> {
-    // The items lie from `head` on, round the end. The other slots have items that were here before.
+    // The items lie from `head` on, round the end. The other slots have the blank, or items that were here before.
     items: [T; N],
     head: usize,
     len: usize,

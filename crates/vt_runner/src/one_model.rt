@@ -93,7 +93,8 @@ pub(crate) fn fault_of(unsettled: Unsettled) -> Fault
 /// name, `own` are the model's options, each with a default in its range, and `make` makes the model of their values. It has to work
 /// for all values in their ranges, as many as `own` has lines.
 ///
-/// The words are those of `./twarp`, with the model's options in the place of its models': `run`, `replay` or help, with
+/// The words are those of `./twarp` without `--model` and the options of programs, and with the model's options in the place of its
+/// models': `run`, `replay` or help, with
 /// `--workers`, `--lps`, `--end`, `--seed`, `--text` and the model's options, `--synch`, `--turns`, `--finals` and `--records` for `run`
 /// alone, and `--serial` for `replay` alone.
 ///

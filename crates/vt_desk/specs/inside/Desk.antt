@@ -10,7 +10,7 @@ use Rattle.vt_parts.specs.inside.Exponential.{exponential_ticks}
 use Rattle.vt_desk.specs.declared.Desk.{Desk}
 use Rattle.vt_desk.specs.declared.Visit.{Visit}
 use Rattle.vt_desk.specs.declared.Visit.TheVariants.{Come, Serve}
-use Rattle.vt_desk.specs.declared.TheConstants.{GAP, SERVICE, KINDS}
+use Rattle.vt_desk.specs.declared.TheConstants.{GAP, SERVICE, BINS}
 
 -- what comes next at this desk
 abbrev pub next : ℕ → ℕ → Visit → SendRequest Visit
@@ -29,12 +29,12 @@ abbrev pub wait : Time → ℕ → ℕ
 wait now came = (ticks_of now + (2 ^ 64 - came)) % 2 ^ 64
 
 -- the wait of the customer who was served, if there was one, is counted
-abbrev pub served : Time → Option ℕ → Histogram KINDS → Histogram KINDS
+abbrev pub served : Time → Option ℕ → Histogram BINS → Histogram BINS
 served now None waits = waits
 served now (Some came) waits = counted waits (wait now came)
 
 -- and not counted any more
-abbrev pub unserved : Time → Option ℕ → Histogram KINDS → Histogram KINDS
+abbrev pub unserved : Time → Option ℕ → Histogram BINS → Histogram BINS
 unserved now None waits = waits
 unserved now (Some came) waits = uncounted waits (wait now came)
 

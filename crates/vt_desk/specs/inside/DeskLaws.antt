@@ -13,7 +13,7 @@ use Rattle.vt_desk.specs.declared.Desk.{Desk}
 use Rattle.vt_desk.specs.declared.Desks.{Desks}
 use Rattle.vt_desk.specs.declared.Visit.{Visit}
 use Rattle.vt_desk.specs.declared.Visit.TheVariants.{Come, Serve}
-use Rattle.vt_desk.specs.declared.TheConstants.{GAP, SERVICE, KINDS}
+use Rattle.vt_desk.specs.declared.TheConstants.{GAP, SERVICE, BINS}
 use Rattle.vt_desk.specs.inside.Desk.{next, desk_start, wait, served, unserved, desk_forward, desk_reverse, IsDesk}
 
 next_ok : (lps lp now delay : ℕ) (visit : Visit) → lp < lps → 0 < delay → IsSendable lps now (next lp delay visit)
@@ -32,7 +32,7 @@ forward_within m lps lp now Serve s words known w =
 pub start_state : (m : Desks) (lps lp : ℕ) (words : ℕ → ℕ) → IsDesk (desk_start lp).state
 start_state m lps lp words = record { line = empty_is 0 (omega arith); waits = empty_histogram_is 10 }
 
-served_is : (now : ℕ) (came : Option ℕ) (waits : Histogram KINDS) → IsHistogram waits → IsHistogram (served now came waits)
+served_is : (now : ℕ) (came : Option ℕ) (waits : Histogram BINS) → IsHistogram waits → IsHistogram (served now came waits)
 served_is now None waits is = is
 served_is now (Some came) waits is = counted_is waits (wait now came) is
 
@@ -40,7 +40,7 @@ pub forward_state : (m : Desks) (lps lp now : ℕ) (e : Visit) (s : Desk) (words
 forward_state m lps lp now Come s words is = record { line = pushed_is s.line (ticks_of now) is.line; waits = is.waits }
 forward_state m lps lp now Serve s words is = record { line = popped_is s.line is.line; waits = served_is now (first s.line) s.waits is.waits }
 
-served_undone : (now : ℕ) (came : Option ℕ) (waits : Histogram KINDS) → IsHistogram waits → unserved now came (served now came waits) ≡ waits
+served_undone : (now : ℕ) (came : Option ℕ) (waits : Histogram BINS) → IsHistogram waits → unserved now came (served now came waits) ≡ waits
 served_undone now None waits is = refl
 served_undone now (Some came) waits is = uncounted_counted waits (wait now came) is
 
