@@ -1,4 +1,6 @@
 pub mod AlignmentLemmas
+pub mod PairLemmas
+pub mod PairSteps
 pub mod ReadyLemmas
 pub mod RunLemmas
 pub mod SprintLemmas

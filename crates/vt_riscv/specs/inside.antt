@@ -1,3 +1,4 @@
 pub mod Cores
+pub mod Pairs
 pub mod Readiness
 pub mod Sprints

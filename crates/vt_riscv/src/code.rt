@@ -24,7 +24,7 @@ pub struct Code {
     pub input: Vec<u8>,
     /// Whether instructions may be compressed. They may lie at any even address then, and else at multiples of 4.
     pub compressed: bool,
-    ghost readied: { AreReady compressed instructions.items ready.heads.items ready.immediates.items ready.targets.items },
+    ghost readied: { AreReady compressed image.items instructions.items ready.heads.items ready.immediates.items ready.targets.items ready.rests.items },
 }
 
 impl Code {
@@ -42,7 +42,7 @@ impl Code {
         ensures compressed { IfOk result (λ code. code.compressed ≡ compressed) }
     {
         let instructions = instructions(alloc, image.get(..length).unwrap_or(&image), compressed)?;
-        let ready = ready_all(alloc, instructions.as_slice(), compressed)?;
+        let ready = ready_all(alloc, image.as_slice(), instructions.as_slice(), compressed)?;
         Ok(Code {
             instructions,
             ready,

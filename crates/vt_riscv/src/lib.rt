@@ -11,6 +11,7 @@ mod instruction;
 mod layout;
 mod machine;
 mod memory;
+mod pairs;
 mod ready;
 mod sprint;
 

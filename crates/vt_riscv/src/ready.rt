@@ -1,14 +1,16 @@
 //! Instructions as a run of many steps wants them.
 
-ghost use Rattle.std.specs.Prelude.{◌≡◌, ℕ, ◌<◌, ◌≤◌, ◌^◌, length, slice_index, IfOk, IfSome};
+ghost use Rattle.std.specs.Prelude.{◌≡◌, ℕ, ◌<◌, ◌≤◌, ◌^◌, List, length, slice_index, IfOk, IfSome};
+ghost use Rattle.vt_riscv.specs.declared.instruction.Operation.TheVariants.{Bad};
 ghost use Rattle.vt_riscv.specs.declared.ready.TheConstants.{NONE};
-ghost use Rattle.vt_riscv.specs.inside.Readiness.{address_at, head_at, ended, step_of, IsMade, IsReady, IsAimed, AreReady};
+ghost use Rattle.vt_riscv.specs.inside.Readiness.{address_at, head_at, ended, head_of, step_of, IsSmall, IsMade, IsReadyAt, AreEnded, IsAimed, AreReady};
 
+use crate::pairs::joined;
 use crate::{IMAGE, Instruction, Operation};
 use std::alloc::{AllocError, Global};
 use std::vec::Vec;
 
-/// What an instruction of a code does, and with which registers. It is `Bad` where it has to be looked at more closely.
+/// What an instruction of a code does, or two in a row, and with which registers. It is `Bad` where they have to be looked at more closely.
 #[derive(Clone, Copy)]
 pub(crate) struct Head {
     pub operation: Operation,
@@ -28,14 +30,28 @@ pub(crate) struct Ready {
     pub targets: Vec<u32>,
     /// Which instruction is at an index of the code. A number that is wrong does no harm.
     pub starts: Vec<u32>,
+    /// How many steps can be made from an instruction on without a jump, and some more. The next one's number is less by its own steps.
+    pub rests: Vec<u64>,
 }
 
-/// The heads and immediates of the instructions of a code, and which one is at an index of the code.
+/// These lists but for the targets.
 #[derive(Drop)]
 struct Draft {
     heads: Vec<Head>,
     immediates: Vec<u64>,
     starts: Vec<u32>,
+    rests: Vec<u64>,
+}
+
+/// What stands at an index of a code: one instruction, or two in a row.
+#[derive(Clone, Copy)]
+pub(crate) struct Entry {
+    pub head: Head,
+    pub immediate: u64,
+    /// How many indices of the code they take.
+    pub span: usize,
+    /// How many there are.
+    pub steps: u64,
 }
 
 // The most instructions of a code that are made ready.
@@ -66,14 +82,13 @@ fn ended(index: u32) -> Head
     }
 }
 
-// The head of an instruction at an index in the code.
-fn made(i: Instruction, index: u32, compressed: bool) -> Head
-    ensures { IsMade compressed i index result }
+// The head of an instruction at an index in the code, if its registers exist.
+fn made(i: Instruction, index: u32) -> Head
+    ensures here { result.index ≡ index }
+    ensures small { IsSmall result }
+    ensures stands { (result.operation ≡ Bad → ⊥) → result ≡ head_of i index }
 {
     if i.destination >= 32 || (i.first >= 32 || i.second >= 32) {
-        return ended(index);
-    }
-    if usize::from(i.length) != 2 * step(i, compressed) {
         return ended(index);
     }
     Head {
@@ -85,34 +100,108 @@ fn made(i: Instruction, index: u32, compressed: bool) -> Head
     }
 }
 
+// One instruction at an index in the code. A call that has a register stands for two, so this one has none.
+fn one(list: &[Instruction], index: usize, compressed: bool) -> Entry
+    requires within { index < length list.now }
+    requires few { length list.now ≤ 2 ^ 31 }
+    ensures { (image : List ℕ) → IsMade compressed image list.now index result }
+{
+    let i = list[index];
+    let span = step(i, compressed);
+    let odd = matches!(i.operation, Operation::Ecall) && (i.destination != 0 || span != 2);
+    let head = if odd || usize::from(i.length) != 2 * span {
+        ended(index as u32)
+    } else {
+        made(i, index as u32)
+    };
+    Entry {
+        head,
+        immediate: i.immediate,
+        span,
+        steps: 1,
+    }
+}
+
+// Two instructions from an index in the code on, if one can stand for them.
+fn two(image: &[u8], list: &[Instruction], index: usize, compressed: bool) -> Option<Entry>
+    requires within { index < length list.now }
+    requires few { length list.now ≤ 2 ^ 31 }
+    ensures { IfSome result (λ e. IsMade compressed image.now list.now index e) }
+{
+    let i = list[index];
+    let span = step(i, compressed);
+    let j = *list.get(index + span)?;
+    let more = step(j, compressed);
+    if usize::from(i.length) != 2 * span || usize::from(j.length) != 2 * more {
+        return None;
+    }
+    let f = joined(image, i, j)?;
+    Some(Entry {
+        head: made(f, index as u32),
+        immediate: f.immediate,
+        span: span + more,
+        steps: 2,
+    })
+}
+
+// What stands at an index in the code.
+fn entry_at(image: &[u8], list: &[Instruction], index: usize, compressed: bool) -> Entry
+    requires within { index < length list.now }
+    requires few { length list.now ≤ 2 ^ 31 }
+    ensures { IsMade compressed image.now list.now index result }
+{
+    match two(image, list, index, compressed) {
+        Some(entry) => entry,
+        None => one(list, index, compressed),
+    }
+}
+
+// Notes which instruction is at the next index of the code, and none up to another index.
+fn note(starts: &mut Vec<u32>, number: u32, end: usize) -> Result<(), AllocError> {
+    starts.push(number)?;
+    'indices: while starts.len() < end {
+        starts.push(NONE)?;
+    }
+    Ok(())
+}
+
 // Drafts the instructions that follow each other from the beginning of a code on.
-fn drafted(alloc: Global, list: &[Instruction], compressed: bool) -> Result<Draft, AllocError>
+fn drafted(
+    alloc: Global,
+    image: &[u8],
+    list: &[Instruction],
+    compressed: bool,
+) -> Result<Draft, AllocError>
     requires { length list.now ≤ 2 ^ 31 }
     ensures few { IfOk result (λ d. length d.heads.items < NONE) }
     ensures immediates { IfOk result (λ d. length d.immediates.items ≡ length d.heads.items) }
-    ensures each { IfOk result (λ d. (k : ℕ) → k < length d.heads.items → IsReady compressed list.now d.heads.items (slice_index d.immediates.items k) k) }
+    ensures rests { IfOk result (λ d. length d.rests.items ≡ length d.heads.items) }
+    ensures ends { IfOk result (λ d. AreEnded d.heads.items) }
+    ensures each { IfOk result (λ d. (k : ℕ) → k < length d.heads.items → IsReadyAt compressed image.now list.now d.heads.items d.rests.items (slice_index d.immediates.items k) k) }
 {
     let mut heads = Vec::new(alloc);
     let mut immediates = Vec::new(alloc);
     let mut starts = Vec::new(alloc);
+    let mut rests = Vec::new(alloc);
     let mut index = 0;
+    let mut rest = list.len() as u64;
     'indices: while index < list.len() {
-        let i = list[index];
-        let step = step(i, compressed);
-        starts.push(heads.len() as u32)?;
-        if step == 2 {
-            starts.push(NONE)?;
-        }
-        heads.push(made(i, index as u32, compressed))?;
-        immediates.push(i.immediate)?;
-        index += step;
+        let entry = entry_at(image, list, index, compressed);
+        note(&mut starts, heads.len() as u32, index + entry.span)?;
+        heads.push(entry.head)?;
+        immediates.push(entry.immediate)?;
+        rests.push(rest)?;
+        index += entry.span;
+        rest -= entry.steps;
     }
     heads.push(ended(index as u32))?;
     immediates.push(0)?;
+    rests.push(rest)?;
     Ok(Draft {
         heads,
         immediates,
         starts,
+        rests,
     })
 }
 
@@ -188,10 +277,11 @@ fn targets(
 /// The instructions of a code, or none of one that has very many.
 pub(crate) fn ready_all(
     alloc: Global,
+    image: &[u8],
     list: &[Instruction],
     compressed: bool,
 ) -> Result<Ready, AllocError>
-    ensures { IfOk result (λ ready. AreReady compressed list.now ready.heads.items ready.immediates.items ready.targets.items) }
+    ensures { IfOk result (λ ready. AreReady compressed image.now list.now ready.heads.items ready.immediates.items ready.targets.items ready.rests.items) }
 {
     if list.len() > MOST {
         return Ok(Ready {
@@ -199,13 +289,15 @@ pub(crate) fn ready_all(
             immediates: Vec::new(alloc),
             targets: Vec::new(alloc),
             starts: Vec::new(alloc),
+            rests: Vec::new(alloc),
         });
     }
-    let draft = drafted(alloc, list, compressed)?;
+    let draft = drafted(alloc, image, list, compressed)?;
     let Draft {
         heads,
         immediates,
         starts,
+        rests,
     } = draft;
     let targets = targets(
         alloc,
@@ -218,5 +310,6 @@ pub(crate) fn ready_all(
         immediates,
         targets,
         starts,
+        rests,
     })
 }

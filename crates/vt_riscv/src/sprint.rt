@@ -5,7 +5,7 @@ ghost use Rattle.vt_riscv.specs.promise.Arithmetic.{sum};
 ghost use Rattle.vt_riscv.specs.inside.Readiness.{address_at, head_at, instruction_at, IsSmall};
 ghost use Rattle.vt_riscv.specs.inside.Cores.{machine_of, bare, core_of};
 ghost use Rattle.vt_riscv.specs.promise.Steps.{register_of, with_register, behind, put_in, branched, jumped, loaded, loaded_signed, stored_at, exec_of, run_of};
-ghost use Rattle.vt_riscv.specs.inside.Sprints.{at_index, seen, due, rest_of, IsAim};
+ghost use Rattle.vt_riscv.specs.inside.Sprints.{at_index, seen, due, called_at, rest_of, IsAim};
 
 use crate::effect::{Effect, effect_of};
 use crate::machine::is_misaligned;
@@ -298,6 +298,21 @@ impl Core {
         }
     }
 
+    // Does ADDI before a call, if the two are joined, and leaves pc at the call.
+    #[inline(always)]
+    fn call_ready(&mut self, heads: &[Head], here: Here)
+        requires within { here.at + 1 < length heads.now }
+        requires small { IsSmall (head_at heads.now here.at) }
+        ensures { self.new ≡ core_of (called_at (bare self.old) heads.now here.immediate here.at) }
+    {
+        let head = heads[here.at];
+        if head.destination != 0 {
+            let sum = self.read(head.first).wrapping_add(here.immediate);
+            self.write(head.destination, sum);
+        }
+        self.pc = address_at(heads[here.at + 1].index) - 4;
+    }
+
     /// Makes steps up to a call, up to an instruction that has to be looked at more closely, or until few are left.
     // `exec_ready` has one caller in each copy. With more it would stay a call for each step.
     #[inline(always)]
@@ -314,6 +329,7 @@ impl Core {
         let immediates = code.ready.immediates.as_slice();
         let targets = code.ready.targets.as_slice();
         let starts = code.ready.starts.as_slice();
+        let rests = code.ready.rests.as_slice();
         let Some(first) = index_of(heads, starts, self.pc) else {
             return Sprint {
                 left: fuel,
@@ -322,16 +338,14 @@ impl Core {
         };
         // Without a jump there are at most so many steps up to the end of the code. Those left beyond them are to spare.
         let mut at = first as usize;
-        let most = (heads.len() - at) as u64;
-        if fuel < most {
+        if fuel < rests[at] {
             return Sprint {
                 left: fuel,
                 called: false,
             };
         }
-        let mut spare = fuel - most;
+        let mut spare = fuel - rests[at];
         'steps: loop {
-            let left = spare + (heads.len() - at) as u64;
             let here = Here {
                 at,
                 immediate: immediates[at],
@@ -346,36 +360,36 @@ impl Core {
                     let Some(to) = index_of(heads, starts, address) else {
                         self.pc = address;
                         return Sprint {
-                            left: left - 1,
+                            left: spare + rests[at + 1],
                             called: false,
                         };
                     };
                     to as usize
                 }
                 Go::Called => {
-                    self.pc = address_of(heads, at);
+                    self.call_ready(heads, here);
                     return Sprint {
-                        left: left - 1,
+                        left: spare + rests[at + 1],
                         called: true,
                     };
                 }
                 Go::Not => {
                     self.pc = address_of(heads, at);
                     return Sprint {
-                        left,
+                        left: spare + rests[at],
                         called: false,
                     };
                 }
             };
-            let most = heads.len().saturating_sub(to) as u64;
-            if most == 0 || left - 1 < most {
+            let left = spare + rests[at + 1];
+            if to >= heads.len() || left < rests[to] {
                 self.pc = address_of(heads, to);
                 return Sprint {
-                    left: left - 1,
+                    left,
                     called: false,
                 };
             }
-            spare = left - 1 - most;
+            spare = left - rests[to];
             at = to;
         }
     }

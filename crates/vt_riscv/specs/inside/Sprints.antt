@@ -1,5 +1,5 @@
 -- Many steps in a row: pc is the address of an instruction made ready then.
-use Rattle.std.specs.Prelude.{◌≡◌, ℕ, ◌<◌, Bool, true, false, List, length}
+use Rattle.std.specs.Prelude.{◌≡◌, ℕ, ◌+◌, ◌-◌, ◌<◌, nat_eq, if◌then◌else◌, Bool, true, false, List, length}
 use Rattle.vt_riscv.specs.declared.ready.Head.{Head}
 use Rattle.vt_riscv.specs.declared.code.Code.{Code}
 use Rattle.vt_riscv.specs.promise.Machines.{Machine}
@@ -8,7 +8,7 @@ use Rattle.vt_riscv.specs.declared.sprint.Go.{Go}
 use Rattle.vt_riscv.specs.declared.sprint.Go.TheVariants as go
 use Rattle.vt_riscv.specs.inside.Readiness.{address_at, head_at, instruction_at}
 use Rattle.vt_riscv.specs.promise.Arithmetic.{sum}
-use Rattle.vt_riscv.specs.promise.Steps.{Turn, Ran, goes_on, stops, behind, is_misaligned, run_of}
+use Rattle.vt_riscv.specs.promise.Steps.{Turn, Ran, goes_on, stops, register_of, with_register, behind, is_misaligned, run_of}
 
 -- an instruction may begin where another jumps or branches to, if that is one of these
 abbrev pub IsAim : Code → List Head → ℕ → ℕ → ℕ → Type 0
@@ -35,6 +35,16 @@ module _ {N : ℕ} where
   due m turn (go.To address) = turn
   due m turn go.Called = turn
   due m turn go.Not = goes_on m
+
+  -- the machine at a call that ends before an index of the code, behind ADDI if the two are joined
+  abbrev pub called_from : Machine N → Head → ℕ → ℕ → Machine N
+  called_from m r next immediate = record m {
+    pc = address_at next - 4;
+    registers = if nat_eq r.destination 0 then m.registers else (with_register m r.destination (sum (register_of m r.first) immediate)).registers;
+  }
+
+  abbrev pub called_at : Machine N → List Head → ℕ → ℕ → Machine N
+  called_at m heads immediate k = called_from m (head_at heads k) (head_at heads (k + 1)).index immediate
 
   -- what is left of a run, whose machine made some steps and perhaps stopped at a call
   abbrev pub rest_of : Code → Machine N → ℕ → Bool → Ran N

@@ -1,4 +1,4 @@
-use Rattle.std.proofs.Common.{◌≡◌, ◌+◌, ◌-◌, ◌<◌, ◌≤◌, length}
+use Rattle.std.proofs.Common.{◌≡◌, ◌+◌, ◌<◌, ◌≤◌, length, slice_index}
 use Rattle.vt_riscv.specs.inside.Cores.{machine_of}
 use Rattle.vt_riscv.specs.promise.Steps.{run_of}
 use Rattle.vt_riscv.specs.inside.Sprints.{at_index}
@@ -6,10 +6,11 @@ use Rattle.vt_riscv.proofs.machine.Core.sprint.Given as goal
 
 abbrev pub invariant-steps : goal.invariant-steps
 invariant-steps g l = record {
-  run : run_of l.code l.fuel (machine_of g.row.N l.fn.self l.fn.state) ≡ run_of l.code (l.spare + (length l.heads - l.at)) (at_index (machine_of g.row.N l.self l.state) l.heads l.at);
+  run : run_of l.code l.fuel (machine_of g.row.N l.fn.self l.fn.state) ≡ run_of l.code (l.spare + slice_index l.rests l.at) (at_index (machine_of g.row.N l.self l.state) l.heads l.at);
   within : l.at < length l.heads;
-  few : l.spare + (length l.heads - l.at) ≤ l.fuel;
+  few : l.spare + slice_index l.rests l.at ≤ l.fuel;
+  registers : length l.self.registers ≡ 32;
 }
 
 abbrev pub decreases-steps : goal.decreases-steps
-decreases-steps g l = l.spare + (length l.heads - l.at)
+decreases-steps g l = l.spare + slice_index l.rests l.at
