@@ -21,7 +21,7 @@ use Rattle.vt_riscv.specs.inside.Pairs.{joins, constant_at, IsCallWith, IsMask, 
 use Rattle.vt_riscv.specs.inside.Readiness.{address_at, head_at, found, instruction_of, instruction_at, IsOne, IsTwo, IsReady, IsReadyAt, AreReady, steps_at}
 use Rattle.vt_riscv.specs.inside.Readiness as ready
 use Rattle.vt_riscv.specs.promise.Steps.{Turn, goes_on, stops, register_of, with_register, put_in, behind, is_misaligned, fetch_of, exec_of, obeyed, step_of, run_of}
-use Rattle.vt_riscv.specs.inside.Sprints.{at_index, called_from, called_at, seen, due, IsAim}
+use Rattle.vt_riscv.specs.inside.Sprints.{at_ready, called_from, called_at, seen, due, IsAim}
 use Rattle.vt_riscv.proofs.PairLemmas.{back}
 use Rattle.vt_riscv.proofs.PairSteps.{call_stops, constant_loaded, registers_kept, written, twice}
 use Rattle.vt_riscv.proofs.ReadyLemmas.{even_on}
@@ -265,17 +265,17 @@ module _ {N : ℕ} (code : Code) where
     ]
 
   module _ (heads : List Head) (rests : List ℕ) (immediate k : ℕ) (m n : Machine N) (g : Go) (is : IsReadyAt code.compressed code.image.items code.instructions.items heads rests immediate k)
-      (done : seen n heads immediate k g ≡ due m (exec_of code (at_index m heads k) (instruction_at heads immediate k) (head_at heads k).operation) g) where
-    does_as : (was : Go) → g ≡ was → seen n heads immediate k was ≡ due m (exec_of code (at_index m heads k) (instruction_at heads immediate k) (head_at heads k).operation) was
-    does_as was same = subst (λ (h : Go). seen n heads immediate k h ≡ due m (exec_of code (at_index m heads k) (instruction_at heads immediate k) (head_at heads k).operation) h) same done
+      (done : seen n heads immediate k g ≡ due m (exec_of code (at_ready m heads k) (instruction_at heads immediate k) (head_at heads k).operation) g) where
+    does_as : (was : Go) → g ≡ was → seen n heads immediate k was ≡ due m (exec_of code (at_ready m heads k) (instruction_at heads immediate k) (head_at heads k).operation) was
+    does_as was same = subst (λ (h : Go). seen n heads immediate k h ≡ due m (exec_of code (at_ready m heads k) (instruction_at heads immediate k) (head_at heads k).operation) h) same done
 
     -- an instruction that goes on or calls isn't `Bad`
-    bad_stops : (why : Option Stop) (o : Machine N) → (record { stop = why; machine = o }) ≡ exec_of code (at_index m heads k) (instruction_at heads immediate k) (head_at heads k).operation
+    bad_stops : (why : Option Stop) (o : Machine N) → (record { stop = why; machine = o }) ≡ exec_of code (at_ready m heads k) (instruction_at heads immediate k) (head_at heads k).operation
         → (why ≡ Some (Trapped BadInstruction) → ⊥) → (head_at heads k).operation ≡ Bad → ⊥
     bad_stops why o does other bad =
-        other (ap (λ (t : Turn N). t.stop) does ∙ ap (λ (o : Operation). (exec_of code (at_index m heads k) (instruction_at heads immediate k) o).stop) bad)
+        other (ap (λ (t : Turn N). t.stop) does ∙ ap (λ (o : Operation). (exec_of code (at_ready m heads k) (instruction_at heads immediate k) o).stop) bad)
 
-    alive : (was : Go) → (was ≡ go.Not → ⊥) → seen n heads immediate k was ≡ due m (exec_of code (at_index m heads k) (instruction_at heads immediate k) (head_at heads k).operation) was
+    alive : (was : Go) → (was ≡ go.Not → ⊥) → seen n heads immediate k was ≡ due m (exec_of code (at_ready m heads k) (instruction_at heads immediate k) (head_at heads k).operation) was
         → (head_at heads k).operation ≡ Bad → ⊥
     alive go.Next some does = bad_stops None _ does (λ e. absurd (let no : None ≡ Some (Trapped BadInstruction) = e in cc))
     alive (go.At to) some does = bad_stops None _ does (λ e. absurd (let no : None ≡ Some (Trapped BadInstruction) = e in cc))
@@ -290,11 +290,11 @@ module _ {N : ℕ} (code : Code) where
     pub rests_less : (g ≡ go.Not → ⊥) → slice_index rests (k + 1) < slice_index rests k
     rests_less some = omega (arith, (is.stands (not_bad some)).some)
 
-    kept_as : (was : Go) → seen n heads immediate k was ≡ due m (exec_of code (at_index m heads k) (instruction_at heads immediate k) (head_at heads k).operation) was → length n.registers ≡ length m.registers
-    kept_as go.Next does = ap (λ (t : Turn N). length t.machine.registers) does ∙ registers_kept code (at_index m heads k) (instruction_at heads immediate k) (head_at heads k).operation
-    kept_as (go.At to) does = ap (λ (t : Turn N). length t.machine.registers) does ∙ registers_kept code (at_index m heads k) (instruction_at heads immediate k) (head_at heads k).operation
-    kept_as (go.To address) does = ap (λ (t : Turn N). length t.machine.registers) does ∙ registers_kept code (at_index m heads k) (instruction_at heads immediate k) (head_at heads k).operation
-    kept_as go.Called does = ap (λ (t : Turn N). length t.machine.registers) does ∙ registers_kept code (at_index m heads k) (instruction_at heads immediate k) (head_at heads k).operation
+    kept_as : (was : Go) → seen n heads immediate k was ≡ due m (exec_of code (at_ready m heads k) (instruction_at heads immediate k) (head_at heads k).operation) was → length n.registers ≡ length m.registers
+    kept_as go.Next does = ap (λ (t : Turn N). length t.machine.registers) does ∙ registers_kept code (at_ready m heads k) (instruction_at heads immediate k) (head_at heads k).operation
+    kept_as (go.At to) does = ap (λ (t : Turn N). length t.machine.registers) does ∙ registers_kept code (at_ready m heads k) (instruction_at heads immediate k) (head_at heads k).operation
+    kept_as (go.To address) does = ap (λ (t : Turn N). length t.machine.registers) does ∙ registers_kept code (at_ready m heads k) (instruction_at heads immediate k) (head_at heads k).operation
+    kept_as go.Called does = ap (λ (t : Turn N). length t.machine.registers) does ∙ registers_kept code (at_ready m heads k) (instruction_at heads immediate k) (head_at heads k).operation
     kept_as go.Not does = ap (λ (t : Turn N). length t.machine.registers) does
 
     -- there are as many registers
@@ -302,43 +302,43 @@ module _ {N : ℕ} (code : Code) where
     as_many = kept_as g done
 
     -- a run is the same where nothing was done
-    pub run-same : (left : ℕ) → g ≡ go.Not → run_of code left (at_index m heads k) ≡ run_of code left (at_index n heads k)
-    run-same left same = ap (λ (t : Turn N). run_of code left (at_index t.machine heads k)) (sym (does_as go.Not same))
+    pub run-same : (left : ℕ) → g ≡ go.Not → run_of code left (at_ready m heads k) ≡ run_of code left (at_ready n heads k)
+    run-same left same = ap (λ (t : Turn N). run_of code left (at_ready t.machine heads k)) (sym (does_as go.Not same))
 
     module _ (spare : ℕ) (long : length m.registers ≡ 32) where
-      goes_from : (o : Machine N) → (g ≡ go.Not → ⊥) → goes_on o ≡ exec_of code (at_index m heads k) (instruction_at heads immediate k) (head_at heads k).operation
-          → run_of code (spare + slice_index rests k) (at_index m heads k) ≡ run_of code (spare + slice_index rests (k + 1)) o
+      goes_from : (o : Machine N) → (g ≡ go.Not → ⊥) → goes_on o ≡ exec_of code (at_ready m heads k) (instruction_at heads immediate k) (head_at heads k).operation
+          → run_of code (spare + slice_index rests k) (at_ready m heads k) ≡ run_of code (spare + slice_index rests (k + 1)) o
       goes_from o some does =
           let less = rests_less some in
           let left : spare + slice_index rests k - steps_at rests k ≡ spare + slice_index rests (k + 1) = omega (arith, less) in
           goes_run (head_at heads k) (head_at heads (k + 1)).index immediate (steps_at rests k) m long is (not_bad some) (spare + slice_index rests k) (omega arith) o does
           ∙ ap (λ (l : ℕ). run_of code l o) left
 
-      pub run-next : g ≡ go.Next → run_of code (spare + slice_index rests k) (at_index m heads k) ≡ run_of code (spare + slice_index rests (k + 1)) (at_index n heads (k + 1))
+      pub run-next : g ≡ go.Next → run_of code (spare + slice_index rests k) (at_ready m heads k) ≡ run_of code (spare + slice_index rests (k + 1)) (at_ready n heads (k + 1))
       run-next next =
           let some : g ≡ go.Not → ⊥ = λ none. absurd (let no : go.Next ≡ go.Not = sym next ∙ none in cc) in
           let on = is.behind (not_bad some) in
-          goes_from (record n { pc = behind (at_index n heads k) (instruction_at heads immediate k) }) some (does_as go.Next next)
+          goes_from (record n { pc = behind (at_ready n heads k) (instruction_at heads immediate k) }) some (does_as go.Next next)
           ∙ ap (λ (p : ℕ). run_of code (spare + slice_index rests (k + 1)) (record n { pc = p }))
           (address_behind (head_at heads k).index (head_at heads (k + 1)).index ((head_at heads (k + 1)).index - (head_at heads k).index) (omega (arith, on)) (is.few (not_bad some)))
 
       -- a run goes on at another instruction that is ready
-      pub run-at : (to : ℕ) → g ≡ go.At to → run_of code (spare + slice_index rests k) (at_index m heads k) ≡ run_of code (spare + slice_index rests (k + 1)) (at_index n heads to)
-      run-at to next = goes_from (at_index n heads to) (λ none. absurd (let no : go.At to ≡ go.Not = sym next ∙ none in cc)) (does_as (go.At to) next)
+      pub run-at : (to : ℕ) → g ≡ go.At to → run_of code (spare + slice_index rests k) (at_ready m heads k) ≡ run_of code (spare + slice_index rests (k + 1)) (at_ready n heads to)
+      run-at to next = goes_from (at_ready n heads to) (λ none. absurd (let no : go.At to ≡ go.Not = sym next ∙ none in cc)) (does_as (go.At to) next)
 
       -- a run goes on at another address
-      pub run-to : (address : ℕ) → g ≡ go.To address → run_of code (spare + slice_index rests k) (at_index m heads k) ≡ run_of code (spare + slice_index rests (k + 1)) (record n { pc = address })
+      pub run-to : (address : ℕ) → g ≡ go.To address → run_of code (spare + slice_index rests k) (at_ready m heads k) ≡ run_of code (spare + slice_index rests (k + 1)) (record n { pc = address })
       run-to address next = goes_from (record n { pc = address }) (λ none. absurd (let no : go.To address ≡ go.Not = sym next ∙ none in cc)) (does_as (go.To address) next)
 
       -- a run stops at a call
-      pub run-call : g ≡ go.Called → run_of code (spare + slice_index rests k) (at_index m heads k)
+      pub run-call : g ≡ go.Called → run_of code (spare + slice_index rests k) (at_ready m heads k)
           ≡ record { outcome = record { stop = Called; left = spare + slice_index rests (k + 1) }; machine = called_at n heads immediate k }
       run-call next =
           let some : g ≡ go.Not → ⊥ = λ none. absurd (let no : go.Called ≡ go.Not = sym next ∙ none in cc) in
           let less = rests_less some in
           let does = does_as go.Called next in
-          let call = call_stops code (at_index m heads k) (instruction_at heads immediate k) (head_at heads k).operation (sym (ap (λ (t : Turn N). t.stop) does)) in
-          let same : at_index n heads k ≡ at_index m heads k = ap (λ (t : Turn N). t.machine) (does ∙ ap (exec_of code (at_index m heads k) (instruction_at heads immediate k)) call) in
+          let call = call_stops code (at_ready m heads k) (instruction_at heads immediate k) (head_at heads k).operation (sym (ap (λ (t : Turn N). t.stop) does)) in
+          let same : at_ready n heads k ≡ at_ready m heads k = ap (λ (t : Turn N). t.machine) (does ∙ ap (exec_of code (at_ready m heads k) (instruction_at heads immediate k)) call) in
           let left : spare + slice_index rests k - steps_at rests k ≡ spare + slice_index rests (k + 1) = omega (arith, less) in
           calls_run (head_at heads k) (head_at heads (k + 1)).index immediate (steps_at rests k) m long is (not_bad some) (spare + slice_index rests k) (omega arith) call
           ∙ (λ x. record { outcome = record { stop = Called; left = left x }; machine = called_at (sym same x) heads immediate k })

@@ -226,7 +226,7 @@ pub(crate) fn address_of(heads: &[Head], at: usize) -> u64
 
 /// Which of these instructions is at an address, if one is.
 #[inline(always)]
-pub(crate) fn index_of(heads: &[Head], starts: &[u32], address: u64) -> Option<u32>
+pub(crate) fn head_number(heads: &[Head], starts: &[u32], address: u64) -> Option<u32>
     ensures within { IfSome result (λ n. n < length heads.now) }
     ensures address { IfSome result (λ n. address_at (head_at heads.now n).index ≡ address) }
 {
@@ -247,7 +247,7 @@ fn target(heads: &[Head], starts: &[u32], address: u64) -> u32
     requires { length heads.now < NONE }
     ensures { result < length heads.now → address_at (head_at heads.now result).index ≡ address }
 {
-    match index_of(heads, starts, address) {
+    match head_number(heads, starts, address) {
         Some(at) => at,
         None => NONE,
     }

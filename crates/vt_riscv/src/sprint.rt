@@ -1,16 +1,16 @@
-//! Many steps in a row, in which the index of an instruction that is ready stands for pc.
+//! Many steps in a row. The number of an instruction that is ready stands for pc there.
 
 ghost use Rattle.std.specs.Prelude.{◌≡◌, ℕ, List, ◌+◌, ◌-◌, ◌%◌, ◌<◌, ◌≤◌, length, slice_index};
 ghost use Rattle.vt_riscv.specs.promise.Arithmetic.{sum};
 ghost use Rattle.vt_riscv.specs.inside.Readiness.{address_at, head_at, instruction_at, IsSmall};
 ghost use Rattle.vt_riscv.specs.inside.Cores.{machine_of, bare, core_of};
 ghost use Rattle.vt_riscv.specs.promise.Steps.{register_of, with_register, behind, put_in, branched, jumped, loaded, loaded_signed, stored_at, exec_of, run_of};
-ghost use Rattle.vt_riscv.specs.inside.Sprints.{at_index, seen, due, called_at, rest_of, IsAim};
+ghost use Rattle.vt_riscv.specs.inside.Sprints.{at_ready, seen, due, called_at, rest_of, IsAim};
 
 use crate::effect::{Effect, effect_of};
 use crate::machine::is_misaligned;
 use crate::memory::{Size, extended, store, width};
-use crate::ready::{Head, address_at, address_of, index_of};
+use crate::ready::{Head, address_at, address_of, head_number};
 use crate::{Code, Core, STACK, STATE};
 
 /// How the machine goes on after a ready instruction.
@@ -18,7 +18,7 @@ use crate::{Code, Core, STACK, STATE};
 pub(crate) enum Go {
     /// It goes on with the instruction behind it.
     Next,
-    /// It goes on with another instruction that is ready, by its index.
+    /// It goes on with another instruction that is ready, by the number of its head.
     At(u32),
     /// It goes on at an address.
     To(u64),
@@ -28,7 +28,7 @@ pub(crate) enum Go {
     Not,
 }
 
-/// An instruction that is ready: its index and its immediate.
+/// An instruction that is ready: the number of its head, and its immediate.
 #[derive(Clone, Copy)]
 pub(crate) struct Here {
     pub at: usize,
@@ -69,7 +69,7 @@ impl Core {
     fn link(&mut self, heads: &[Head], here: Here)
         requires within { here.at < length heads.now }
         requires small { IsSmall (head_at heads.now here.at) }
-        ensures { self.new ≡ core_of (with_register (bare self.old) (head_at heads.now here.at).destination (behind (at_index (bare self.old) heads.now here.at) (instruction_at heads.now here.immediate here.at))) }
+        ensures { self.new ≡ core_of (with_register (bare self.old) (head_at heads.now here.at).destination (behind (at_ready (bare self.old) heads.now here.at) (instruction_at heads.now here.immediate here.at))) }
     {
         let index = heads[here.at].index;
         let length = match heads.get(here.at + 1) {
@@ -85,7 +85,7 @@ impl Core {
     fn put_ready(&mut self, heads: &[Head], here: Here, v: u64) -> Go
         requires within { here.at < length heads.now }
         requires small { IsSmall (head_at heads.now here.at) }
-        ensures { (n : ℕ) (bytes : List ℕ) → seen (machine_of n self.new bytes) heads.now here.immediate here.at result ≡ due (machine_of n self.old bytes) (put_in (at_index (machine_of n self.old bytes) heads.now here.at) (instruction_at heads.now here.immediate here.at) v) result }
+        ensures { (n : ℕ) (bytes : List ℕ) → seen (machine_of n self.new bytes) heads.now here.immediate here.at result ≡ due (machine_of n self.old bytes) (put_in (at_ready (machine_of n self.old bytes) heads.now here.at) (instruction_at heads.now here.immediate here.at) v) result }
     {
         self.write(heads[here.at].destination, v);
         Go::Next
@@ -103,7 +103,7 @@ impl Core {
     ) -> Go
         requires within { here.at < length heads.now }
         requires small { IsSmall (head_at heads.now here.at) }
-        ensures { seen (machine_of N self.new state.now) heads.now here.immediate here.at result ≡ due (machine_of N self.old state.now) (loaded code.now (at_index (machine_of N self.old state.now) heads.now here.at) (instruction_at heads.now here.immediate here.at) size (sum x here.immediate)) result }
+        ensures { seen (machine_of N self.new state.now) heads.now here.immediate here.at result ≡ due (machine_of N self.old state.now) (loaded code.now (at_ready (machine_of N self.old state.now) heads.now here.at) (instruction_at heads.now here.immediate here.at) size (sum x here.immediate)) result }
     {
         match self.load_from(code, state, size, x.wrapping_add(here.immediate)) {
             Some(v) => self.put_ready(heads, here, v),
@@ -123,7 +123,7 @@ impl Core {
     ) -> Go
         requires within { here.at < length heads.now }
         requires small { IsSmall (head_at heads.now here.at) }
-        ensures { seen (machine_of N self.new state.now) heads.now here.immediate here.at result ≡ due (machine_of N self.old state.now) (loaded_signed code.now (at_index (machine_of N self.old state.now) heads.now here.at) (instruction_at heads.now here.immediate here.at) size (sum x here.immediate)) result }
+        ensures { seen (machine_of N self.new state.now) heads.now here.immediate here.at result ≡ due (machine_of N self.old state.now) (loaded_signed code.now (at_ready (machine_of N self.old state.now) heads.now here.at) (instruction_at heads.now here.immediate here.at) size (sum x here.immediate)) result }
     {
         match self.load_from(code, state, size, x.wrapping_add(here.immediate)) {
             Some(v) => self.put_ready(heads, here, extended(size, v)),
@@ -142,7 +142,7 @@ impl Core {
         size: Size,
     ) -> Go
         requires within { here.at < length heads.now }
-        ensures { seen (machine_of N self.new state.new) heads.now here.immediate here.at result ≡ due (machine_of N self.old state.old) (stored_at (at_index (machine_of N self.old state.old) heads.now here.at) (instruction_at heads.now here.immediate here.at) size (sum x here.immediate) v) result }
+        ensures { seen (machine_of N self.new state.new) heads.now here.immediate here.at result ≡ due (machine_of N self.old state.old) (stored_at (at_ready (machine_of N self.old state.old) heads.now here.at) (instruction_at heads.now here.immediate here.at) size (sum x here.immediate) v) result }
     {
         let address = x.wrapping_add(here.immediate);
         if address >= STATE {
@@ -172,7 +172,7 @@ impl Core {
         requires within { here.at < length heads.now }
         requires targets { here.at < length targets.now }
         requires aim { IsAim code.now heads.now here.immediate (slice_index targets.now here.at) here.at }
-        ensures { (n : ℕ) (bytes : List ℕ) → seen (machine_of n self.new bytes) heads.now here.immediate here.at result ≡ due (machine_of n self.old bytes) (branched code.now (at_index (machine_of n self.old bytes) heads.now here.at) (instruction_at heads.now here.immediate here.at) taken) result }
+        ensures { (n : ℕ) (bytes : List ℕ) → seen (machine_of n self.new bytes) heads.now here.immediate here.at result ≡ due (machine_of n self.old bytes) (branched code.now (at_ready (machine_of n self.old bytes) heads.now here.at) (instruction_at heads.now here.immediate here.at) taken) result }
     {
         if !taken {
             return Go::Next;
@@ -190,7 +190,7 @@ impl Core {
         requires small { IsSmall (head_at heads.now here.at) }
         requires targets { here.at < length targets.now }
         requires aim { IsAim code.now heads.now here.immediate (slice_index targets.now here.at) here.at }
-        ensures { (n : ℕ) (bytes : List ℕ) → seen (machine_of n self.new bytes) heads.now here.immediate here.at result ≡ due (machine_of n self.old bytes) (jumped code.now (at_index (machine_of n self.old bytes) heads.now here.at) (instruction_at heads.now here.immediate here.at) (sum (address_at (head_at heads.now here.at).index) here.immediate)) result }
+        ensures { (n : ℕ) (bytes : List ℕ) → seen (machine_of n self.new bytes) heads.now here.immediate here.at result ≡ due (machine_of n self.old bytes) (jumped code.now (at_ready (machine_of n self.old bytes) heads.now here.at) (instruction_at heads.now here.immediate here.at) (sum (address_at (head_at heads.now here.at).index) here.immediate)) result }
     {
         let target = targets[here.at];
         if target as usize >= heads.len() {
@@ -204,7 +204,7 @@ impl Core {
     fn jump_ready(&mut self, code: &Code, heads: &[Head], here: Here, x: u64) -> Go
         requires within { here.at < length heads.now }
         requires small { IsSmall (head_at heads.now here.at) }
-        ensures { (n : ℕ) (bytes : List ℕ) → seen (machine_of n self.new bytes) heads.now here.immediate here.at result ≡ due (machine_of n self.old bytes) (jumped code.now (at_index (machine_of n self.old bytes) heads.now here.at) (instruction_at heads.now here.immediate here.at) (sum x here.immediate - sum x here.immediate % 2)) result }
+        ensures { (n : ℕ) (bytes : List ℕ) → seen (machine_of n self.new bytes) heads.now here.immediate here.at result ≡ due (machine_of n self.old bytes) (jumped code.now (at_ready (machine_of n self.old bytes) heads.now here.at) (instruction_at heads.now here.immediate here.at) (sum x here.immediate - sum x here.immediate % 2)) result }
     {
         let address = x.wrapping_add(here.immediate);
         let to = address - address % 2;
@@ -229,7 +229,7 @@ impl Core {
         requires small { IsSmall (head_at heads.now here.at) }
         requires targets { here.at < length targets.now }
         requires aim { IsAim code.now heads.now here.immediate (slice_index targets.now here.at) here.at }
-        ensures { seen (machine_of N self.new state.new) heads.now here.immediate here.at result ≡ due (machine_of N self.old state.old) (exec_of code.now (at_index (machine_of N self.old state.old) heads.now here.at) (instruction_at heads.now here.immediate here.at) (head_at heads.now here.at).operation) result }
+        ensures { seen (machine_of N self.new state.new) heads.now here.immediate here.at result ≡ due (machine_of N self.old state.old) (exec_of code.now (at_ready (machine_of N self.old state.old) heads.now here.at) (instruction_at heads.now here.immediate here.at) (head_at heads.now here.at).operation) result }
     {
         let head = &heads[here.at];
         let x = self.read(head.first);
@@ -330,7 +330,7 @@ impl Core {
         let targets = code.ready.targets.as_slice();
         let starts = code.ready.starts.as_slice();
         let rests = code.ready.rests.as_slice();
-        let Some(first) = index_of(heads, starts, self.pc) else {
+        let Some(first) = head_number(heads, starts, self.pc) else {
             return Sprint {
                 left: fuel,
                 called: false,
@@ -357,7 +357,7 @@ impl Core {
                 }
                 Go::At(to) => to as usize,
                 Go::To(address) => {
-                    let Some(to) = index_of(heads, starts, address) else {
+                    let Some(to) = head_number(heads, starts, address) else {
                         self.pc = address;
                         return Sprint {
                             left: spare + rests[at + 1],

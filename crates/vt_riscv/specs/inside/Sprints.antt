@@ -17,15 +17,15 @@ IsAim code heads immediate target k =
 
 module _ {N : ℕ} where
   -- the machine with pc at an instruction that is ready
-  abbrev pub at_index : Machine N → List Head → ℕ → Machine N
-  at_index m heads k = record m { pc = address_at (head_at heads k).index }
+  abbrev pub at_ready : Machine N → List Head → ℕ → Machine N
+  at_ready m heads k = record m { pc = address_at (head_at heads k).index }
 
   -- where the machine is after an instruction, by how it goes on. `Not` means that nothing was done
   abbrev pub seen : Machine N → List Head → ℕ → ℕ → Go → Turn N
-  seen m heads immediate k go.Next = goes_on (record m { pc = behind (at_index m heads k) (instruction_at heads immediate k) })
-  seen m heads immediate k (go.At to) = goes_on (at_index m heads to)
+  seen m heads immediate k go.Next = goes_on (record m { pc = behind (at_ready m heads k) (instruction_at heads immediate k) })
+  seen m heads immediate k (go.At to) = goes_on (at_ready m heads to)
   seen m heads immediate k (go.To address) = goes_on (record m { pc = address })
-  seen m heads immediate k go.Called = stops Called (at_index m heads k)
+  seen m heads immediate k go.Called = stops Called (at_ready m heads k)
   seen m heads immediate k go.Not = goes_on m
 
   -- and where it has to be, by what the instruction does to it

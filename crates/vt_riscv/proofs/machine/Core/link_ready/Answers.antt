@@ -4,13 +4,13 @@ use Rattle.vt_riscv.specs.promise.Arithmetic.{sum}
 use Rattle.vt_riscv.specs.inside.Readiness.{address_at, head_at, instruction_at}
 use Rattle.vt_riscv.specs.inside.Cores.{machine_of}
 use Rattle.vt_riscv.specs.promise.Steps.{goes_on, trapped, is_misaligned, with_register, behind}
-use Rattle.vt_riscv.specs.inside.Sprints.{at_index}
+use Rattle.vt_riscv.specs.inside.Sprints.{at_ready}
 use Rattle.vt_riscv.proofs.machine.Core.link_ready.Goals as goal
 
 pub returns : goal.returns
 returns c = λ n bytes.
     let heads = c.args.heads.now in
-    let here = at_index (machine_of n c.args.self.now bytes) heads c.args.here.at in
+    let here = at_ready (machine_of n c.args.self.now bytes) heads c.args.here.at in
     let i = instruction_at heads c.args.here.immediate c.args.here.at in
     let to = sum (address_at (head_at heads c.args.here.at).index) c.args.here.immediate in
     let known : slice_index c.args.targets.now c.args.here.at < length heads = omega arith in

@@ -4,11 +4,11 @@ use Rattle.vt_riscv.specs.declared.sprint.Go.TheVariants as go
 use Rattle.vt_riscv.specs.inside.Readiness.{address_at, head_at, IsReadyAt, AreReady}
 use Rattle.vt_riscv.specs.inside.Cores.{machine_of}
 use Rattle.vt_riscv.specs.promise.Steps.{run_of}
-use Rattle.vt_riscv.specs.inside.Sprints.{at_index}
+use Rattle.vt_riscv.specs.inside.Sprints.{at_ready}
 use Rattle.vt_riscv.proofs.SprintLemmas.{are_ready, aim_there, next_there, not_bad, rests_less, as_many, run-next, run-at, run-to, run-call}
 use Rattle.vt_riscv.proofs.machine.Core.sprint.Given.{Over}
 use Rattle.vt_riscv.proofs.machine.Core.sprint.Goals as goal
-use Rattle.vt_riscv.proofs.machine.Core.sprint.Goals.{After-exec_ready, Joined-exec_ready, in-At, in-To+in-Some-index_of}
+use Rattle.vt_riscv.proofs.machine.Core.sprint.Goals.{After-exec_ready, Joined-exec_ready, in-At, in-To+in-Some-head_number}
 
 -- the lists of the code
 are : (g : Over) (c : After-exec_ready g)
@@ -38,7 +38,7 @@ registers g c =
 
 -- where a jump or a branch goes on, it goes on at one that is ready
 jumps : (g : Over) (c : Joined-exec_ready g) → run_of c.args.code.now c.args.fuel (machine_of g.row.N c.args.self.now c.args.state.now)
-    ≡ run_of c.args.code.now (c.steps.spare + slice_index c.as_slice-rests.result.now (c.steps.at + 1)) (at_index (machine_of g.row.N c.exec_ready.new.self c.exec_ready.new.state) c.as_slice-heads.result.now c.match-exec_ready.to)
+    ≡ run_of c.args.code.now (c.steps.spare + slice_index c.as_slice-rests.result.now (c.steps.at + 1)) (at_ready (machine_of g.row.N c.exec_ready.new.self c.exec_ready.new.state) c.as_slice-heads.result.now c.match-exec_ready.to)
 jumps g c =
     let code = c.args.code.now in
     let heads = c.as_slice-heads.result.now in
@@ -51,16 +51,16 @@ jumps g c =
     ∙ elim c.match-exec_ready.branch [
       | in-At w ↦ (
           run-at code heads _ _ c.steps.at m n c.exec_ready.result is c.exec_ready.ensures c.steps.spare c.steps.invariant.registers w.in-At.to w.in-At.is
-          ∙ ap (λ (t : ℕ). run_of code left (at_index n heads t)) (sym w.to-is))
-      | in-To+in-Some-index_of w ↦ (
+          ∙ ap (λ (t : ℕ). run_of code left (at_ready n heads t)) (sym w.to-is))
+      | in-To+in-Some-head_number w ↦ (
           run-to code heads _ _ c.steps.at m n c.exec_ready.result is c.exec_ready.ensures c.steps.spare c.steps.invariant.registers w.in-To.address w.in-To.is
-          ∙ ap (λ (p : ℕ). run_of code left (record n { pc = p })) (sym w.in-Some-index_of.ensures.address ∙ ap (λ (t : ℕ). address_at (head_at heads t).index) (sym w.to-is)))
+          ∙ ap (λ (p : ℕ). run_of code left (record n { pc = p })) (sym w.in-Some-head_number.ensures.address ∙ ap (λ (t : ℕ). address_at (head_at heads t).index) (sym w.to-is)))
     ]
 
 jumps_done : (g : Over) (c : Joined-exec_ready g) → c.exec_ready.result ≡ go.Not → ⊥
 jumps_done g c none = elim c.match-exec_ready.branch [
   | in-At w ↦ absurd (let no : go.At w.in-At.to ≡ go.Not = sym w.in-At.is ∙ none in cc)
-  | in-To+in-Some-index_of w ↦ absurd (let no : go.To w.in-To.address ≡ go.Not = sym w.in-To.is ∙ none in cc)
+  | in-To+in-Some-head_number w ↦ absurd (let no : go.To w.in-To.address ≡ go.Not = sym w.in-To.is ∙ none in cc)
 ]
 
 pub exec_ready-requires : goal.exec_ready-requires
@@ -92,28 +92,28 @@ steps-smaller-in-Next g c =
     let some : c.exec_ready.result ≡ go.Not → ⊥ = λ none. absurd (let no : go.Next ≡ go.Not = sym c.in-Next.is ∙ none in cc) in
     omega (arith, less g (goal.at.steps-smaller-in-Next g c).After-exec_ready some)
 
-pub bounds-rests-at-in_default-index_of : goal.bounds-rests-at-in_default-index_of
-bounds-rests-at-in_default-index_of g c =
-    let p = (goal.at.bounds-rests-at-in_default-index_of g c).After-exec_ready in
+pub bounds-rests-at-in_default-head_number : goal.bounds-rests-at-in_default-head_number
+bounds-rests-at-in_default-head_number g c =
+    let p = (goal.at.bounds-rests-at-in_default-head_number g c).After-exec_ready in
     let some : c.exec_ready.result ≡ go.Not → ⊥ = λ none. absurd (let no : go.To c.in-To.address ≡ go.Not = sym c.in-To.is ∙ none in cc) in
     omega (arith, next g p some, (are g p).with_rests)
 
-pub overflow_add-result-in_default-index_of : goal.overflow_add-result-in_default-index_of
-overflow_add-result-in_default-index_of g c =
-    let p = (goal.at.overflow_add-result-in_default-index_of g c).After-exec_ready in
+pub overflow_add-result-in_default-head_number : goal.overflow_add-result-in_default-head_number
+overflow_add-result-in_default-head_number g c =
+    let p = (goal.at.overflow_add-result-in_default-head_number g c).After-exec_ready in
     let some : c.exec_ready.result ≡ go.Not → ⊥ = λ none. absurd (let no : go.To c.in-To.address ≡ go.Not = sym c.in-To.is ∙ none in cc) in
     omega (arith, less g p some, c.steps.invariant.few)
 
-pub returns-in_default-index_of-clause-run : goal.returns-in_default-index_of-clause-run
-returns-in_default-index_of-clause-run g c =
-    let p = (goal.at.returns-in_default-index_of-clause-run g c).After-exec_ready in
+pub returns-in_default-head_number-clause-run : goal.returns-in_default-head_number-clause-run
+returns-in_default-head_number-clause-run g c =
+    let p = (goal.at.returns-in_default-head_number-clause-run g c).After-exec_ready in
     c.steps.invariant.run
     ∙ run-to c.args.code.now _ _ _ c.steps.at (machine_of g.row.N c.steps.self c.steps.state) (machine_of g.row.N c.exec_ready.new.self c.exec_ready.new.state) c.exec_ready.result (here g p) c.exec_ready.ensures
     c.steps.spare c.steps.invariant.registers c.in-To.address c.in-To.is
 
-pub returns-in_default-index_of-clause-left : goal.returns-in_default-index_of-clause-left
-returns-in_default-index_of-clause-left g c =
-    let p = (goal.at.returns-in_default-index_of-clause-left g c).After-exec_ready in
+pub returns-in_default-head_number-clause-left : goal.returns-in_default-head_number-clause-left
+returns-in_default-head_number-clause-left g c =
+    let p = (goal.at.returns-in_default-head_number-clause-left g c).After-exec_ready in
     let some : c.exec_ready.result ≡ go.Not → ⊥ = λ none. absurd (let no : go.To c.in-To.address ≡ go.Not = sym c.in-To.is ∙ none in cc) in
     omega (arith, less g p some, c.steps.invariant.few)
 
@@ -190,7 +190,7 @@ steps-preserved g c =
     let enough : slice_index rests to ≤ left = omega arith in
     let again : left ≡ left - slice_index rests to + slice_index rests to = omega (arith, enough) in
     record {
-      run = jumps g (goal.at.steps-preserved g c).Joined-exec_ready ∙ ap (λ (l : ℕ). run_of c.args.code.now l (at_index (machine_of g.row.N c.exec_ready.new.self c.exec_ready.new.state) c.as_slice-heads.result.now to)) again;
+      run = jumps g (goal.at.steps-preserved g c).Joined-exec_ready ∙ ap (λ (l : ℕ). run_of c.args.code.now l (at_ready (machine_of g.row.N c.exec_ready.new.self c.exec_ready.new.state) c.as_slice-heads.result.now to)) again;
       within = omega arith;
       few = omega (arith, again, less g p some, c.steps.invariant.few);
       registers = registers g p;
