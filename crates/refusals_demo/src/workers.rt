@@ -250,6 +250,7 @@ fn tell_mail(mail: &[Mail<Token>], page: &mut Page) {
     }
 }
 
+// Of its own, since a comparison of structs leaves the search for a caller's proof without an end.
 fn are_same(one: Config, other: Config) -> bool
     ensures { result ≡ true → one ≡ other }
 {

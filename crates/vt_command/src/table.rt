@@ -45,6 +45,7 @@ const MODEL: OptionText = OptionText {
 
 /// The models, `hop` first, with their options. An option that is added or changed here stands in `specs/promise/Table.antt`, in `IN_SHORT`
 /// and in `tools/check-calls` too.
+// Options are written in place, since a static can't refer to a static.
 pub(crate) static MODELS: ModelTable<'static> = ModelTable {
     naming: Some(MODEL),
     models: &[

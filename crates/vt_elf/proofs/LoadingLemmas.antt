@@ -68,10 +68,6 @@ put_byte file memory new s base to count k begins at all fits whole is =
     (cases_lt k (to + count)))
     (cases_lt k to)
 
--- one segment more in front
-pub memory_more : (file : List ℕ) (ss : List Segment) (i address : ℕ) (d : Segment) → i < length ss → memory_byte file (drop i ss) address ≡ cond (has_byte (get_or ss i d) address) (file_byte file (get_or ss i d) address) (memory_byte file (drop (suc i) ss) address)
-memory_more file ss i address d below = ap (λ rest. memory_byte file rest address) (drop-cons ss i d below)
-
 -- what holds of each element holds of the i-th
 pub all_at : {X : Type 0} (P : X → Type 0) (xs : List X) (i : ℕ) (d : X) → i < length xs → AllByRecursion P xs → P (get_or xs i d)
 all_at P [] i d below all = absurd (omega arith)

@@ -3,10 +3,6 @@ use Rattle.std.proofs.Common.{◌≡◌, ℕ, suc, zero, ◌+◌, ◌<◌, ◌�
 use Rattle.std.proofs.lemmas.Bool.{cases_lt}
 use Rattle.vt_elf.specs.promise.Symbols.{first_below}
 
--- one number more, which doesn't pass
-pub none_more : (test : ℕ → Bool) (k : ℕ) → first_below test k ≡ None → test k ≡ false → first_below test (k + 1) ≡ None
-none_more test k none fails = rw (add-one, none, fails) refl
-
 -- what is found is found below greater bounds too
 pub still_found : (test : ℕ → Bool) (k n : ℕ) {i : ℕ} → first_below test k ≡ Some i → k ≤ n → first_below test n ≡ Some i
 still_found test k zero found le = let e : k ≡ 0 = omega arith in rw e at found

@@ -301,10 +301,6 @@ module _ {N : ℕ} (code : Code) where
     pub as_many : length n.registers ≡ length m.registers
     as_many = kept_as g done
 
-    -- a run is the same where nothing was done
-    pub run-same : (left : ℕ) → g ≡ go.Not → run_of code left (at_ready m heads k) ≡ run_of code left (at_ready n heads k)
-    run-same left same = ap (λ (t : Turn N). run_of code left (at_ready t.machine heads k)) (sym (does_as go.Not same))
-
     module _ (spare : ℕ) (long : length m.registers ≡ 32) where
       goes_from : (o : Machine N) → (g ≡ go.Not → ⊥) → goes_on o ≡ exec_of code (at_ready m heads k) (instruction_at heads immediate k) (head_at heads k).operation
           → run_of code (spare + slice_index rests k) (at_ready m heads k) ≡ run_of code (spare + slice_index rests (k + 1)) o

@@ -40,6 +40,7 @@ pub(crate) enum Effect {
 }
 
 /// What an instruction does by its operation, where its registers and its immediate are these numbers.
+// It doesn't call on the machine: a match of so many arms that do takes a minute to prove.
 #[inline(always)]
 pub(crate) fn effect_of(operation: Operation, x: u64, y: u64, number: u64) -> Effect
     ensures { result ≡ effect_of operation x y number }

@@ -79,6 +79,7 @@ pub(crate) fn closer_of<M: EventModel>(jobs: &[Job<'_, M>]) -> Option<usize>
     ensures none { IfNone result (NoneClosed jobs.now) }
 {
     for i in 0..jobs.len() {
+        // Bound first: a field of a job can't be reached at an element.
         let Some(job) = jobs.get(i) else {
             return None;
         };

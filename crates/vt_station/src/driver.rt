@@ -202,6 +202,7 @@ impl<'a, M: EventModel> Driver<'a, M> {
     }
 
     /// Executes the event of least rank, if one is pending before this time, and returns whether one was.
+    // A method of its own, so that the loop's invariant speaks of `self`.
     fn execute_one<G: Gate>(
         &mut self,
         gate: &G,

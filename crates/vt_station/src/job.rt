@@ -253,6 +253,7 @@ impl<'a, M: EventModel> Job<'a, M> {
         ensures shown { IfOk result (λ v. (floor : TimeValue) × (v.items ≡ seq_records (simulation_of (M.handlers self.entry.model) self.entry.config) floor) × (self.entry.outcome ≡ Some Closed → floor ≡ (end_of self.entry.config))) }
         ensures refused { IfErr result (λ fault. (fault ≡ Busy) × (1 < self.entry.config.workers)) }
     {
+        // Taken apart first: no field can be used after a move out of the post.
         let Job { station, post, .. } = self;
         let Some(post) = post else { unreachable!() };
         station.take_out(alloc, leave(post))

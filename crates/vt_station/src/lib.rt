@@ -1,6 +1,7 @@
 //! The running of workers on threads: each at a place of one station, which `vt_places` makes.
 //!
-//! Only the loops of the workers wait for each other. No call of a station does.
+//! Only the loops of the workers wait for each other. No call of a station does. `bench/rounds` counts by edits of this crate: after a change
+//! here `bench/rounds --check` has to pass.
 #![tactic(auto)]
 
 mod bell;
