@@ -132,10 +132,6 @@ module _ {N : ℕ} (code : Code) where
 
     -- it stands for two: a run after both
     module _ (double : count ≡ 2) where
-      -- the second one is at its index
-      second_there : (q : ℕ) → q ≡ r.index + ready.step_of code.compressed (found code.instructions.items r.index).length → IsTwo code.compressed code.image.items code.instructions.items r.index q (instruction_of r next immediate)
-      second_there q at = subst (λ (n : ℕ). IsTwo code.compressed code.image.items code.instructions.items r.index n (instruction_of r next immediate)) (sym at) ((is.stands good).two double)
-
       module _ (q : ℕ) (at : q ≡ r.index + ready.step_of code.compressed (found code.instructions.items r.index).length)
           (t : IsTwo code.compressed code.image.items code.instructions.items r.index q (instruction_of r next immediate)) where
         some_left : 2 ≤ left
@@ -149,10 +145,7 @@ module _ {N : ℕ} (code : Code) where
             (subst (λ (n : ℕ). address_at n % (if code.compressed then 2 else 4) ≡ 0) (sym at) (even_on code.compressed r.index (found code.instructions.items r.index).length is.aligned)) t.too refl
 
         link : sum (address_at r.index) (found code.instructions.items r.index).length ≡ address_at q
-        link =
-            let size = t.size in
-            let whole = t.long in
-            omega (arith, at, size, whole, is.behind good, is.few good)
+        link = omega (arith, at, t.size, t.long, is.behind good, is.few good)
 
         some_register : 0 < (found code.instructions.items r.index).destination
         some_register = omega (arith, t.joined.some, t.joined.destination)
@@ -211,7 +204,7 @@ module _ {N : ℕ} (code : Code) where
           let f = instruction_of r next immediate in
           let here = record m { pc = address_at r.index } in
           let q = r.index + ready.step_of code.compressed (found code.instructions.items r.index).length in
-          let t = second_there q refl in
+          let t = (is.stands good).two double in
           elim (which r.operation t.joined.only) [
             | inl call ↦ absurd (let no : None ≡ Some Called = ap (λ (u : Turn N). u.stop) (does ∙ ap (exec_of code here f) call) in cc)
             | inr other ↦ elim other [
@@ -229,7 +222,7 @@ module _ {N : ℕ} (code : Code) where
           ≡ record { outcome = record { stop = Called; left = left - count }; machine = called_from m r next immediate }
       calls_twice call =
           let q = r.index + ready.step_of code.compressed (found code.instructions.items r.index).length in
-          let t = second_there q refl in
+          let t = (is.stands good).two double in
           let some : nat_eq r.destination 0 ≡ false = grind (arith, t.joined.some) in
           let registers : (with_register m r.destination (sum (register_of m r.first) immediate)).registers ≡ (called_from m r next immediate).registers =
           sym (ap (λ (b : Bool). if b then m.registers else (with_register m r.destination (sum (register_of m r.first) immediate)).registers) some) in
@@ -290,11 +283,14 @@ module _ {N : ℕ} (code : Code) where
     pub rests_less : (g ≡ go.Not → ⊥) → slice_index rests (k + 1) < slice_index rests k
     rests_less some = omega (arith, (is.stands (not_bad some)).some)
 
+    exec_keeps : length (exec_of code (at_ready m heads k) (instruction_at heads immediate k) (head_at heads k).operation).machine.registers ≡ length m.registers
+    exec_keeps = registers_kept code (at_ready m heads k) (instruction_at heads immediate k) (head_at heads k).operation
+
     kept_as : (was : Go) → seen n heads immediate k was ≡ due m (exec_of code (at_ready m heads k) (instruction_at heads immediate k) (head_at heads k).operation) was → length n.registers ≡ length m.registers
-    kept_as go.Next does = ap (λ (t : Turn N). length t.machine.registers) does ∙ registers_kept code (at_ready m heads k) (instruction_at heads immediate k) (head_at heads k).operation
-    kept_as (go.At to) does = ap (λ (t : Turn N). length t.machine.registers) does ∙ registers_kept code (at_ready m heads k) (instruction_at heads immediate k) (head_at heads k).operation
-    kept_as (go.To address) does = ap (λ (t : Turn N). length t.machine.registers) does ∙ registers_kept code (at_ready m heads k) (instruction_at heads immediate k) (head_at heads k).operation
-    kept_as go.Called does = ap (λ (t : Turn N). length t.machine.registers) does ∙ registers_kept code (at_ready m heads k) (instruction_at heads immediate k) (head_at heads k).operation
+    kept_as go.Next does = ap (λ (t : Turn N). length t.machine.registers) does ∙ exec_keeps
+    kept_as (go.At to) does = ap (λ (t : Turn N). length t.machine.registers) does ∙ exec_keeps
+    kept_as (go.To address) does = ap (λ (t : Turn N). length t.machine.registers) does ∙ exec_keeps
+    kept_as go.Called does = ap (λ (t : Turn N). length t.machine.registers) does ∙ exec_keeps
     kept_as go.Not does = ap (λ (t : Turn N). length t.machine.registers) does
 
     -- there are as many registers

@@ -10,7 +10,8 @@ use crate::{IMAGE, Instruction, Operation};
 use std::alloc::{AllocError, Global};
 use std::vec::Vec;
 
-/// What an instruction of a code does, or two in a row, and with which registers. It is `Bad` where they have to be looked at more closely.
+/// What an instruction of a code does, or two that are joined, and with which registers. It is `Bad` where it has to be looked at more
+/// closely.
 #[derive(Clone, Copy)]
 pub(crate) struct Head {
     pub operation: Operation,
@@ -21,7 +22,8 @@ pub(crate) struct Head {
     pub index: u32,
 }
 
-/// The instructions of a code that follow each other from its beginning on. Each list has something of every one.
+/// The instructions of a code that follow each other from its beginning on, where two that are joined count as one. Each list has
+/// something of every one.
 #[derive(Drop)]
 pub(crate) struct Ready {
     pub heads: Vec<Head>,
@@ -30,7 +32,7 @@ pub(crate) struct Ready {
     pub targets: Vec<u32>,
     /// Which instruction is at an index of the code. A number that is wrong does no harm.
     pub starts: Vec<u32>,
-    /// How many steps can be made from an instruction on without a jump, and some more. The next one's number is less by its own steps.
+    /// How many steps there are at most from an instruction on without a jump. For the one behind it there are as many fewer as it makes.
     pub rests: Vec<u64>,
 }
 
@@ -43,7 +45,7 @@ struct Draft {
     rests: Vec<u64>,
 }
 
-/// What stands at an index of a code: one instruction, or two in a row.
+/// What stands at an index of a code: one instruction, or two that are joined.
 #[derive(Clone, Copy)]
 pub(crate) struct Entry {
     pub head: Head,
@@ -100,7 +102,7 @@ fn made(i: Instruction, index: u32) -> Head
     }
 }
 
-// One instruction at an index in the code. A call that has a register stands for two, so this one has none.
+// The instruction at an index in the code. A call that has a register stands for two, so this one has none.
 fn one(list: &[Instruction], index: usize, compressed: bool) -> Entry
     requires within { index < length list.now }
     requires few { length list.now ≤ 2 ^ 31 }
@@ -122,7 +124,7 @@ fn one(list: &[Instruction], index: usize, compressed: bool) -> Entry
     }
 }
 
-// Two instructions from an index in the code on, if one can stand for them.
+// The one that stands for two from an index in the code on, if one does.
 fn two(image: &[u8], list: &[Instruction], index: usize, compressed: bool) -> Option<Entry>
     requires within { index < length list.now }
     requires few { length list.now ≤ 2 ^ 31 }

@@ -52,7 +52,7 @@ head_of i index = record { operation = i.operation; destination = i.destination;
 abbrev pub found : List Instruction → ℕ → Instruction
 found list index = slice_index_or list index (plain Bad)
 
--- it is the instruction at an index. A call keeps no register
+-- it is the instruction at an index. A call has no register, since one that has stands for two
 pub record IsOne (list : List Instruction) (index : ℕ) (f : Instruction) : Type 0 where
   pub within : index < length list
   pub is : found list index ≡ f
@@ -62,7 +62,6 @@ pub record IsOne (list : List Instruction) (index : ℕ) (f : Instruction) : Typ
 -- it stands for two in a row, the second one behind the first
 pub record IsTwo (compressed : Bool) (image : List ℕ) (list : List Instruction) (index second : ℕ) (f : Instruction) : Type 0 where
   pub within : index < length list
-  pub step : second ≡ index + step_of compressed (found list index).length
   pub size : (found list index).length ≡ 2 * step_of compressed (found list index).length
   pub too : second < length list
   pub joined : IsJoined image (found list index) (found list second) f
