@@ -52,6 +52,7 @@ fn first_ready<M: EventModel>(processes: &[Lp<M>]) -> Option<usize>
 }
 
 /// Whether a rank is there, and another one isn't or is after it.
+// By references: the guard of a match may not lend a field of a rank.
 fn is_earlier(rank: &Option<Rank>, other: &Option<Rank>) -> bool
     ensures { result ≡ is_earlier rank.now other.now }
 {

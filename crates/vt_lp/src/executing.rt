@@ -144,6 +144,7 @@ fn advance<M: EventModel>(
     ensures in_range { process.old.stream.place < 2 ^ 64 }
     ensures refused { let fired = (simulation_of (M.handlers model.now) config).fire event.dest (triple_at process.old.state process.old.number process.old.stream) (unstamped event) in IfErr result (λ fault. IsAdvanceRefusal fired serial fault) }
 {
+    // By reference: a copy of an event counts as a move, since its time has a model.
     let event = &event;
     let number = process.number;
     let sent = unstamped(event);

@@ -50,6 +50,7 @@ impl<M: EventModel> Pool<M> {
         };
         let first = letter.get();
         let event = first.event;
+        // By reference: a copy of an event counts as a move, since its time has a model.
         let event = &event;
         let has_room = make_room(&mut self.log, &mut self.kept, first);
         let index = self.config.index(event.dest);

@@ -11,6 +11,7 @@ use vt_key::Fault;
 use vt_text::{NUMBER_LEN, TextBuffer};
 
 /// What a refusal says behind the program's name, without the option or the line that the fault names.
+// One binding and one tail give one goal, where each arm would have its own.
 fn head_of(fault: Fault) -> &'static [u8]
     ensures { result.now ≡ head_text fault }
 {
